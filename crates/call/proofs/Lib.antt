@@ -1,0 +1,4 @@
+pub mod Answer
+pub mod Unknown
+pub mod Unique
+pub mod Number

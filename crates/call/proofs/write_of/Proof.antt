@@ -1,0 +1,22 @@
+-- What `value::from_word` ensures, in each of its two cases.
+use borrow.Author.Needs.{needs}
+use Rattle.call.proofs.write_of.Statement.{statement}
+use Rattle.call.proofs.write_of.Tie as tie
+
+from-word-requires : tie.Need-from-word-requires
+from-word-requires c κs = search needs
+
+enum-known-v : tie.Need-enum-known-v
+enum-known-v c = search needs
+
+enum-told : tie.Need-enum-told
+enum-told c = search needs
+
+returns : tie.Need-returns
+returns c = rw (← c .before .before .from-word .ensures, c .enum-told .given .1)
+
+returns-2 : tie.Need-returns-2
+returns-2 c = rw (← c .before .before .before .from-word .ensures, c .before .v .given .1)
+
+pub write-of-spec : {M : Type 1} → statement M
+write-of-spec = tie.close (tie.spec from-word-requires enum-known-v enum-told returns returns-2)

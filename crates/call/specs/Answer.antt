@@ -1,0 +1,71 @@
+-- This paper's code, kind and word for each case of a reply.
+use mathlib.Core.Bool.{cond}
+use Prim.Native.Nat.{ℕ, _+_, _*_, _^_}
+use Rattle.value.specs.Value.{kindOf, wordOf}
+use Rattle.call.specs.declared.Reply.{Reply}
+use Rattle.call.specs.declared.Reply.the-variants.{Done, Verdict, Value, NotWellFormed, NoSuchStep, NoSuchSlot, NotAllowed, NoSuchCell, IllegalValue, OtherKind, NotInLog, LogFull, ReadHeld, ReadNewer, LockHeld, ReloadHeld, LastStamp, Aborted}
+
+abbrev pub replyCode : Reply → ℕ
+replyCode Done = 0
+replyCode (Verdict b) = 0
+replyCode (Value v) = 0
+replyCode NotWellFormed = 1
+replyCode NoSuchStep = 2
+replyCode NoSuchSlot = 3
+replyCode NotAllowed = 4
+replyCode NoSuchCell = 5
+replyCode IllegalValue = 6
+replyCode OtherKind = 7
+replyCode NotInLog = 8
+replyCode LogFull = 9
+replyCode (ReadHeld holder) = 10
+replyCode ReadNewer = 10
+replyCode (LockHeld cell holder) = 11
+replyCode (ReloadHeld cell holder) = 11
+replyCode LastStamp = 12
+replyCode Aborted = 13
+
+-- "kind 0 unless stated": a truth value has kind 1, and a value its own
+abbrev pub replyKind : Reply → ℕ
+replyKind Done = 0
+replyKind (Verdict b) = 1
+replyKind (Value v) = kindOf v
+replyKind NotWellFormed = 0
+replyKind NoSuchStep = 0
+replyKind NoSuchSlot = 0
+replyKind NotAllowed = 0
+replyKind NoSuchCell = 0
+replyKind IllegalValue = 0
+replyKind OtherKind = 0
+replyKind NotInLog = 0
+replyKind LogFull = 0
+replyKind (ReadHeld holder) = 0
+replyKind ReadNewer = 0
+replyKind (LockHeld cell holder) = 0
+replyKind (ReloadHeld cell holder) = 0
+replyKind LastStamp = 0
+replyKind Aborted = 0
+
+abbrev pub replyWord : Reply → ℕ
+replyWord Done = 0
+replyWord (Verdict b) = cond b 1 0
+replyWord (Value v) = wordOf v
+replyWord NotWellFormed = 0
+replyWord NoSuchStep = 0
+replyWord NoSuchSlot = 0
+replyWord NotAllowed = 0
+replyWord NoSuchCell = 0
+replyWord IllegalValue = 0
+replyWord OtherKind = 0
+replyWord NotInLog = 0
+replyWord LogFull = 0
+replyWord (ReadHeld holder) = 0
+replyWord ReadNewer = 0
+replyWord (LockHeld cell holder) = 0
+replyWord (ReloadHeld cell holder) = 0
+replyWord LastStamp = 0
+replyWord Aborted = 0
+
+-- the one 64-bit number that C gets
+unfoldable pub replyNumber : Reply → ℕ
+replyNumber r = replyCode r * 2 ^ 40 + replyKind r * 2 ^ 32 + replyWord r

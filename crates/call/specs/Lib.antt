@@ -1,0 +1,2 @@
+pub mod Decode
+pub mod Answer

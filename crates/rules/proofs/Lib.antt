@@ -1,0 +1,17 @@
+pub mod Open
+pub mod Edges
+pub mod SheetS
+pub mod Logic
+pub mod LayView
+pub mod Zeros
+pub mod SlotPlace
+pub mod SlotKept
+pub mod CellBytes
+pub mod Places
+pub mod Agree
+pub mod AreaKept
+pub mod StateSized
+pub mod RoundTrip
+pub mod PackBytes
+pub mod LaidOut
+pub mod Controller

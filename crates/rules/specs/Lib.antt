@@ -1,0 +1,16 @@
+pub mod Logic
+pub mod Model
+pub mod State
+pub mod Logs
+pub mod Outcome
+pub mod Steps
+pub mod Step
+pub mod LogsRight
+pub mod StateRight
+pub mod Layout
+pub mod AreaRight
+pub mod Area
+pub mod RoundTrip
+pub mod Run
+pub mod Edges
+pub mod SheetS

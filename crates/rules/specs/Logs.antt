@@ -1,0 +1,78 @@
+-- The logs, and what they and the cells say of each other.
+use mathlib.Core.Bool.{Bool, true, false, not, cond}
+use mathlib.Core.List.{List, [], _∷_, map}
+use mathlib.Core.Option.{Option}
+use Prim.Native.Nat.{ℕ, suc}
+use lib.Dec.{eqb, ltb}
+use Rattle.slot.specs.declared.ReadEntry.{ReadEntry}
+use Rattle.slot.specs.declared.WriteEntry.{WriteEntry}
+use Rattle.rules.specs.Logic.{_and_, _or_, any, first}
+use Rattle.rules.specs.State.{State, cellAt}
+use Rattle.rules.specs.declared.Cell.{Cell}
+
+-- the entry of a cell, if the log has one
+unfoldable pub readEntry : List ReadEntry → ℕ → Option ReadEntry
+unfolding first
+readEntry reads c = first (λ (e : ReadEntry). eqb (e .cell) c) reads
+
+unfoldable pub writeEntry : List WriteEntry → ℕ → Option WriteEntry
+unfolding first
+writeEntry writes c = first (λ (e : WriteEntry). eqb (e .cell) c) writes
+
+-- the log has the cell
+unfoldable pub readsCell : List ReadEntry → ℕ → Bool
+unfolding any
+readsCell reads c = any (λ (e : ReadEntry). eqb (e .cell) c) reads
+
+unfoldable pub writesCell : List WriteEntry → ℕ → Bool
+unfolding any
+writesCell writes c = any (λ (e : WriteEntry). eqb (e .cell) c) writes
+
+-- puts or replaces the entry in the write log, which ascends by cell
+unfoldable pub putWrite : WriteEntry → List WriteEntry → List WriteEntry
+putWrite e [] = e ∷ []
+putWrite e (x ∷ writes) =
+    cond (ltb (e .cell) (x .cell)) (e ∷ x ∷ writes)
+    (cond (eqb (e .cell) (x .cell)) (e ∷ writes)
+    (x ∷ putWrite e writes))
+
+unfoldable pub someMarked : List ReadEntry → Bool
+unfolding any
+someMarked reads = any (λ (e : ReadEntry). e .mark) reads
+
+-- a cell is held by a slot other than i; it has a stamp above start
+unfoldable pub heldByOther : ℕ → Cell → Bool
+unfolding _and_
+heldByOther i x = not (eqb (x .holder) 0) and not (eqb (x .holder) (suc i))
+
+unfoldable pub newer : ℕ → Cell → Bool
+newer start x = ltb start (x .stamp)
+
+-- enter marks each read entry whose cell is held by another slot or has a stamp above start
+unfoldable pub withMark : State → ℕ → ℕ → ReadEntry → ReadEntry
+unfolding _or_ heldByOther newer
+withMark S i start e =
+    record { cell = e .cell; mark = heldByOther i (cellAt S (e .cell)) or newer start (cellAt S (e .cell)); word = e .word }
+
+-- reload gives each read entry its shared cell's present value, and clears its mark
+unfoldable pub reloaded : State → ReadEntry → ReadEntry
+reloaded S e = record { cell = e .cell; mark = false; word = cellAt S (e .cell) .word }
+
+-- the first entry of the read log whose cell is held by another slot
+unfoldable pub obstacle : State → ℕ → List ReadEntry → Option ReadEntry
+unfolding first heldByOther
+obstacle S i reads = first (λ (e : ReadEntry). heldByOther i (cellAt S (e .cell))) reads
+
+-- a cell with slot i as its holder; freed; with a published word and its commit stamp, freed
+abbrev pub takenBy : ℕ → Cell → Cell
+takenBy i x = record { kind = x .kind; holder = suc i; word = x .word; stamp = x .stamp }
+
+abbrev pub freed : Cell → Cell
+freed x = record { kind = x .kind; holder = 0; word = x .word; stamp = x .stamp }
+
+abbrev pub publishedAs : ℕ → ℕ → Cell → Cell
+publishedAs word commit x = record { kind = x .kind; holder = 0; word = word; stamp = commit }
+
+-- all cells that slot i holds are freed
+unfoldable pub freeAll : ℕ → List Cell → List Cell
+freeAll i cells = map (λ (x : Cell). cond (eqb (x .holder) (suc i)) (freed x) x) cells

@@ -1,0 +1,42 @@
+-- `put_write` meets its contract: the word is put right after the byte that is stored.
+use mathlib.Core.Path.{refl, _∙_}
+use mathlib.Core.List.{[], _∷_}
+use Prim.Native.Nat.{_+_}
+use native.Mathlib.Omega.{arith}
+use borrow.Author.Needs.{needs}
+use lib.ListN.{set, length-set}
+use Rattle.wire.specs.Field.{toBe}
+use Rattle.wire.proofs.Laws.Part.{splice-set, splice-next}
+use Rattle.slot.specs.Layout.{writeBytes}
+use Rattle.slot.proofs.put_write.Statement.{statement}
+use Rattle.slot.proofs.put_write.Tie as tie
+
+slice-write-s : tie.Need-slice-write-s
+slice-write-s c = search needs
+
+add-put : tie.Need-add-put
+add-put c = search needs
+
+cast-put : tie.Need-cast-put
+cast-put c = search needs
+
+put-requires : tie.Need-put-requires
+put-requires c κs = simp length-set (omega arith)
+
+same-length : tie.Need-same-length
+same-length c = c .before .before .put .kept .0 ∙ simp length-set
+
+returns : tie.Need-returns
+unfolding writeBytes
+returns c =
+    let args = c .before .before .before .before .before .before .args in
+    let put = c .before .before .put in
+    let a = args .s .now in
+    let at = args .at in
+    let cell = args .e .cell in
+    splice-next a at (cell ∷ []) (toBe 4 (args .e .word)) (set a at cell) (put .last .0) (at + 1) (omega arith) refl
+    (splice-set a at cell (omega arith)) (put .ensures)
+
+pub put-write-spec : {M : Type 1} → statement M
+put-write-spec =
+    tie.close (tie.spec slice-write-s add-put cast-put put-requires same-length returns)

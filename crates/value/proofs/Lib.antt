@@ -1,0 +1,3 @@
+pub mod Signed
+pub mod RoundTrip
+pub mod Unique

@@ -1,0 +1,92 @@
+-- `get` meets its contract: before each turn `n` is the field of the first `i` bytes, and a turn is the definition's own step. Seven bytes' number
+-- times 256 and one byte more still fit 64 bits.
+use mathlib.Core.Path.{_≡_, refl}
+use mathlib.Core.List.{List}
+use Prim.Native.Nat.{ℕ, _+_, _*_, _-_, _^_, _≤_, _<_}
+use native.Mathlib.Nat.{lt-of-lt-of-le, pow-le-pow-right, pow-suc}
+use native.Mathlib.Numerals.{add-one}
+use native.Mathlib.Omega.{arith}
+use lib.Arith.{digits-lt}
+use lib.Dec.{lit<}
+use lib.ListN.{getD, drop}
+use lib.Seq.{getD-drop}
+use Rattle.wire.specs.Field.{be}
+use Rattle.wire.proofs.get.Statement.{statement}
+use Rattle.wire.proofs.get.Tie as tie
+
+abbrev Inv-loop : tie.InvT-loop
+Inv-loop s at width n₀ i₀ n i = (i ≤ width) × (n < 256 ^ i) × (n ≡ be i (drop at s))
+
+abbrev μ-loop : tie.MeasureT-loop
+μ-loop s at width n₀ i₀ n i = width - i
+
+-- seven bytes' number has room for one more
+room : (n i : ℕ) → i ≤ 7 → n < 256 ^ i → n < 256 ^ 7
+room n i h below = lt-of-lt-of-le below (pow-le-pow-right (lit< tt) h)
+
+-- a turn takes one more byte
+turn : (s : List ℕ) (at i n : ℕ) → n ≡ be i (drop at s) → n * 256 + getD s (at + i) 0 ≡ be (i + 1) (drop at s)
+unfolding be
+turn s at i n e = rw (add-one i, getD-drop, e)
+
+loop-holds : tie.Need-loop-holds Inv-loop μ-loop
+unfolding be
+loop-holds c = (omega arith, omega arith, refl)
+
+mul-n : tie.Need-mul-n Inv-loop μ-loop
+mul-n c = omega (arith, room (c .before .loop .n) (c .before .loop .i) (omega arith) (c .before .loop .inv .1))
+
+add-n : tie.Need-add-n Inv-loop μ-loop
+add-n c = omega arith
+
+shared-slice-read-n : tie.Need-shared-slice-read-n Inv-loop μ-loop
+shared-slice-read-n c = omega arith
+
+cast-n : tie.Need-cast-n Inv-loop μ-loop
+cast-n c = omega (arith, c .shared-slice-known .given (c .before .before .before .args .at + c .before .before .loop .i))
+
+add-n-2 : tie.Need-add-n-2 Inv-loop μ-loop
+add-n-2 c =
+    let args = c .before .before .before .args in
+    let loop = c .before .before .loop in
+    let known = c .shared-slice-known in
+    omega (arith, room (loop .n) (loop .i) (omega arith) (loop .inv .1), known .given (args .at + loop .i))
+
+add-i : tie.Need-add-i Inv-loop μ-loop
+add-i c = omega arith
+
+loop-less : tie.Need-loop-less Inv-loop μ-loop
+loop-less c = omega arith
+
+loop-again : tie.Need-loop-again Inv-loop μ-loop
+loop-again c =
+    let args = c .before .before .before .args in
+    let loop = c .before .before .loop in
+    let known = c .shared-slice-known in
+    let byte : getD (args .s .now) (args .at + loop .i) 0 < 256 = omega (arith, known .given (args .at + loop .i)) in (
+      omega arith,
+      rw (add-one, pow-suc) (digits-lt (loop .inv .1) byte),
+      turn (args .s .now) (args .at) (loop .i) (loop .n) (loop .inv .2),
+    )
+
+returns : tie.Need-returns Inv-loop μ-loop
+returns c =
+    let whole : c .before .loop .i ≡ c .before .before .args .width = omega arith in
+    rw (← whole) (c .before .loop .inv .2)
+
+pub get-spec : {M : Type 1} → statement M
+get-spec =
+    tie.close
+    (tie.spec
+    Inv-loop
+    μ-loop
+    loop-holds
+    mul-n
+    add-n
+    shared-slice-read-n
+    cast-n
+    add-n-2
+    add-i
+    loop-less
+    loop-again
+    returns)

@@ -1,0 +1,3 @@
+pub mod Field
+pub mod Part
+pub mod Table

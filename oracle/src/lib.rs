@@ -1,0 +1,40 @@
+//! A second program for the transaction core of document 01.
+//!
+//! It shares no code and no data structure with the core it is compared with:
+//! a slot is idle or has a [`Transaction`], the holder of a cell is worked out
+//! from the transactions instead of being stored, and the packed area exists
+//! only while it is read or written.
+//!
+//! - [`Machine`] is the state; [`Machine::step`] makes one step.
+//! - [`Machine::pack`] and [`Machine::unpack`] go to and from the area's bytes.
+//! - [`step_on_bytes`] and [`lay_out_on_bytes`] are the two functions that a
+//!   C runtime calls.
+//! - [`Sheet`] is a step sheet, with a binary form and a [`text`] form, and
+//!   [`run`] makes its output.
+
+#![forbid(unsafe_code)]
+#![warn(missing_docs)]
+
+pub mod area;
+pub mod binary;
+pub mod call;
+pub mod generate;
+pub mod machine;
+pub mod random;
+pub mod run;
+pub mod text;
+pub mod value;
+pub mod wellformed;
+
+mod bytes;
+mod record;
+mod steps;
+
+pub use area::{area_length, lay_out_on_bytes, step_on_bytes};
+pub use binary::{BadSheet, Sheet};
+pub use call::{Call, Refusal, Reply, Step};
+pub use machine::{Cell, Commit, Machine, Phase, Read, Transaction, Write};
+pub use random::Random;
+pub use text::TextError;
+pub use value::{Kind, Value};
+pub use wellformed::{faults, well_formed};

@@ -1,0 +1,137 @@
+//! Areas damaged one byte at a time: what is still well formed must be
+//! unpacked without loss, and everything else must be refused.
+
+use std::collections::BTreeMap;
+
+use oracle::{faults, step_on_bytes, wellformed, Machine, Random};
+
+use crate::bench::Bench;
+use crate::peek;
+
+#[derive(Default)]
+struct Tally {
+    still_well_formed: u64,
+    /// How often each sentence was broken.
+    broken: BTreeMap<&'static str, u64>,
+}
+
+/// An area after some random steps.
+fn reached(random: &mut Random) -> Vec<u8> {
+    let n = random.cell_count();
+    let mut bench = Bench::fresh(&random.values(n));
+    let habit = random.habit();
+    for _ in 0..random.between(20, 120) {
+        let call = random.likely_call(&bench.machine, habit);
+        bench.machine.step(call);
+    }
+    bench.machine.pack()
+}
+
+/// Puts another byte in one place, checks, and puts the right one back.
+fn damage(area: &mut [u8], place: usize, byte: u8, tally: &mut Tally) {
+    let right = std::mem::replace(&mut area[place], byte);
+    let broken = faults(area);
+    assert_eq!(broken.is_empty(), peek::well_formed(area), "place {place}, {broken:?}");
+    match Machine::unpack(area) {
+        Some(machine) => {
+            assert_eq!(machine.pack(), area, "place {place}");
+            tally.still_well_formed += 1;
+        }
+        None => assert!(!broken.is_empty(), "place {place}"),
+    }
+    for sentence in &broken {
+        *tally.broken.entry(sentence).or_default() += 1;
+    }
+    area[place] = right;
+}
+
+fn damage_everywhere(area: &mut [u8], random: &mut Random, tally: &mut Tally) {
+    for place in 0..area.len() {
+        let byte = area[place];
+        let flipped = byte ^ (1 << random.up_to(7));
+        let near = byte.wrapping_add(1 + 254 * random.up_to(1) as u8);
+        // A byte that stands elsewhere in the area is likely to make sense.
+        let other = area[random.place(area.len())];
+        for new in [flipped, near, other] {
+            if new != byte {
+                damage(area, place, new, tally);
+            }
+        }
+    }
+}
+
+fn check(tally: &Tally) {
+    assert!(tally.still_well_formed >= 1000, "{}", tally.still_well_formed);
+    // With n alone the lent length goes wrong, and then nothing else is asked.
+    for sentence in wellformed::sentences().filter(|words| *words != "n from 1 to 64") {
+        let broken = tally.broken.get(sentence).copied().unwrap_or_default();
+        assert!(broken >= 5, "{sentence}: {broken}");
+    }
+}
+
+#[test]
+fn reached_areas_damaged_one_byte_at_a_time() {
+    let mut tally = Tally::default();
+    for seed in 0..50 {
+        let mut random = Random::new(seed);
+        let mut area = reached(&mut random);
+        damage_everywhere(&mut area, &mut random, &mut tally);
+    }
+    check(&tally);
+}
+
+#[test]
+fn any_well_formed_areas_damaged_one_byte_at_a_time() {
+    let mut tally = Tally::default();
+    for seed in 0..50 {
+        let mut random = Random::new(1000 + seed);
+        let mut area = random.machine().pack();
+        damage_everywhere(&mut area, &mut random, &mut tally);
+    }
+    check(&tally);
+}
+
+/// All 255 other bytes at every place of the header, the cells and the
+/// numbers of the slots, of an area with a slot in each phase.
+#[test]
+fn every_damage_to_one_area() {
+    let mut bench = Bench::of_wholes(4);
+    bench.make_all(&["begin 1", "read 1 0", "write 1 3 whole 5", "begin 2", "write 2 0 whole 6"]);
+    bench.make_all(&["write 2 1 whole 7", "close 2", "lock 2", "begin 3", "read 3 2", "close 3"]);
+    bench.make_all(&["enter 3", "begin 4", "read 4 3", "write 4 2 whole 8", "write 4 3 whole 9"]);
+    bench.make_all(&["close 4", "lock 4", "lock 4", "enter 4", "finish 4", "publish 4"]);
+    let mut area = bench.bytes;
+    let slots_at = 14 + 14 * 4;
+    let numbers_of_slot = |slot: usize| (0..40).chain(117..130).map(move |at| 197 * slot + at);
+    let of_slots = (0..5).flat_map(numbers_of_slot).map(|at| slots_at + at);
+    let mut tally = Tally::default();
+    for place in (0..slots_at).chain(of_slots) {
+        for difference in 1..=255 {
+            let byte = area[place] ^ difference;
+            damage(&mut area, place, byte, &mut tally);
+        }
+    }
+    assert!(tally.still_well_formed >= 1000, "{}", tally.still_well_formed);
+}
+
+#[test]
+fn a_step_on_a_damaged_area_gives_1_and_changes_no_byte() {
+    let mut refused = 0;
+    for seed in 0..3000 {
+        let mut random = Random::new(seed);
+        let mut area = random.machine().pack();
+        let place = random.place(area.len());
+        area[place] ^= random.between(1, 255) as u8;
+        if peek::well_formed(&area) {
+            continue;
+        }
+        let before = area.clone();
+        let call = random.junk_call();
+        let (cell, kind, word) = (call.cell, call.kind, call.word);
+        let number = step_on_bytes(&mut area, call.step, call.slot, cell, kind, word);
+        assert_eq!(number, 1 << 40);
+        assert_eq!(area, before);
+        refused += 1;
+    }
+    assert!(refused >= 1000, "{refused}");
+}

@@ -1,0 +1,16 @@
+//! Tests of the library and of the program `sheet`.
+
+mod areas;
+mod bench;
+mod damage;
+mod edges;
+mod effects;
+mod layout;
+mod ledger;
+mod peek;
+mod program;
+mod readings;
+mod sentences;
+mod sheets;
+mod texts;
+mod walks;
