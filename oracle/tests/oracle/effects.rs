@@ -140,18 +140,19 @@ fn check_published(old: &Peek, new: &Peek, slot: u8) {
     assert_eq!((new.phase(slot), new.taken(slot)), if last { (0, 0) } else { (4, entry + 1) });
 }
 
+fn word_to_read(peek: &Peek, call: Call) -> u32 {
+    match (write_entry(peek, call), read_entry(peek, call)) {
+        (Some(_), _) => peek.number(written_word(peek, call).start, 4) as u32,
+        (None, Some(entry)) => read_word(peek, call.slot, entry),
+        (None, None) => peek.word(usize::from(call.cell)),
+    }
+}
+
 fn check_answer(old: &Peek, new: &Peek, call: Call, answer: Answer) {
     let (slot, cell) = (call.slot, usize::from(call.cell));
     let truth = |truth: bool| (0, 1, u32::from(truth));
     let expected = match call.step {
-        2 => {
-            let word = match (write_entry(old, call), read_entry(old, call)) {
-                (Some(_), _) => old.number(written_word(old, call).start, 4) as u32,
-                (None, Some(entry)) => read_word(old, slot, entry),
-                (None, None) => old.word(cell),
-            };
-            (0, old.kind(cell), word)
-        }
+        2 => (0, old.kind(cell), word_to_read(old, call)),
         6 => truth(!new.marks(slot).contains(&1)),
         7 => {
             let entry = read_entry(old, call).expect("a cell in the read log");
