@@ -9,16 +9,16 @@ use lib.ListN.{length, getD, take, drop, List·getD-map}
 use borrow.Author.Tests.{eq-eqb, le-leb}
 use Rattle.slot.specs.declared.SlotRecord.{SlotRecord}
 use Rattle.slot.specs.Layout.{empty, slotOf, slotBytes}
-use Rattle.rules.specs.Logic.{_and_, same, every, all, pairwise}
+use Rattle.slot.specs.Logic.{_and_, same, every, all, pairwise}
 use Rattle.rules.specs.Model.{Model, lastStamp, areaLength}
 use Rattle.rules.specs.State.{State, Slot, idle, opened, locking, twilight, publishing, cellCount, slotAt, commitOf, noCell}
-use Rattle.rules.specs.Logs.{writesCell}
+use Rattle.slot.specs.Logs.{writesCell}
 use Rattle.rules.specs.LogsRight.{cellRight, stampsApart, holdersRight, cellCountRight}
 use Rattle.rules.specs.StateRight.{slotRight, holds, shapeRight, stateRightButHolders, stateHoldersRight, stateRight}
 use Rattle.rules.specs.Layout.{lay, pack, versionIn, lengthIn, countIn, clockIn, slotPlace, cellsIn, recordsIn}
 use Rattle.rules.specs.AreaRight.{lengthsAgree, versionRight, slotPlaceRight, wellFormedButHolders, commitsApart, recordHolds, areaHoldersRight, wellFormed}
 use Rattle.rules.specs.declared.Cell.{Cell}
-use Rattle.rules.proofs.Logic.{and-intro, true-and, every-ext, all-every, pairwise-map}
+use Rattle.slot.proofs.Logic.{and-intro, true-and, every-ext, all-every, pairwise-map}
 use Rattle.rules.proofs.LayView.{write-log}
 use Rattle.rules.proofs.SlotPlace.{slot-laid}
 use Rattle.rules.proofs.Places.{Sized, length-pack, version-packed, count-packed, length-packed, clock-packed, cells-packed, records-packed, past, slot-packed}

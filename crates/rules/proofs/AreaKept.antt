@@ -15,13 +15,13 @@ use Rattle.wire.proofs.Laws.Table.{cat-ext, length-tab, getD-tab, cat-back-at}
 use Rattle.slot.specs.declared.SlotRecord.{SlotRecord}
 use Rattle.slot.specs.Layout.{empty, slotSize, slotOf, slotBytes}
 use Rattle.slot.proofs.RoundTrip.{bytes-back, slot-fits}
-use Rattle.rules.specs.Logic.{_and_, every}
+use Rattle.slot.specs.Logic.{_and_, every}
 use Rattle.rules.specs.Model.{Model, headerSize, cellSize, sizeOfSlot, cellOffset, slotOffset, areaLength}
 use Rattle.rules.specs.State.{State, Slot, idle, cellCount, cellAt, slotAt, noCell}
 use Rattle.rules.specs.Layout.{cellOf, cellBytes, lay, view, header, pack, versionIn, lengthIn, countIn, clockIn, slotPlace, cellsIn, recordsIn, stateOf}
 use Rattle.rules.specs.AreaRight.{lengthsAgree, versionRight, slotPlaceRight, wellFormedButHolders}
 use Rattle.rules.specs.declared.Cell.{Cell}
-use Rattle.rules.proofs.Logic.{and-left, and-right, every-at}
+use Rattle.slot.proofs.Logic.{and-left, and-right, every-at}
 use Rattle.rules.proofs.CellBytes.{cell-fits, cell-bytes-back}
 use Rattle.rules.proofs.SlotKept.{slot-kept}
 use Rattle.rules.proofs.Places.{Sized}

@@ -2,7 +2,7 @@
 use mathlib.Core.Path.{refl}
 use Rattle.rules.specs.Edges.{Edges}
 use Rattle.wire.specs.Field.{be}
-use Rattle.rules.specs.Logic.{all}
+use Rattle.slot.specs.Logic.{all}
 use Rattle.rules.specs.LogsRight.{cellCountRight}
 use Rattle.rules.specs.Area.{describedCell, describedCells, lengthsFit, layOut}
 use Rattle.rules.proofs.Open.{computed}

@@ -11,7 +11,7 @@ use borrow.Author.Tests.{eq-eqb, le-leb, ne-eqb}
 use Rattle.value.specs.Legal.{legalWord}
 use Rattle.wire.specs.Table.{tab}
 use Rattle.wire.proofs.Laws.Table.{length-tab, getD-tab}
-use Rattle.rules.specs.Logic.{_and_, _or_, same, every, all, pairwise}
+use Rattle.slot.specs.Logic.{_and_, _or_, same, every, all, pairwise}
 use Rattle.rules.specs.Model.{Model, lastStamp, FitsBytes}
 use Rattle.rules.specs.State.{State, Slot, idle, cellCount, slotAt, commitOf, noCell}
 use Rattle.rules.specs.LogsRight.{cellRight, stampsApart, holdersRight, cellCountRight}
@@ -21,7 +21,7 @@ use Rattle.rules.specs.AreaRight.{wellFormed}
 use Rattle.rules.specs.Area.{atRest, descriptionSize, describedCount, describedCell, describedCells, fresh, lengthsFit, LaidOut, layOut}
 use Rattle.rules.specs.RoundTrip.{LaysOut}
 use Rattle.rules.specs.declared.Cell.{Cell}
-use Rattle.rules.proofs.Logic.{and-intro, and-left, and-right, every-of, all-at, all-of}
+use Rattle.slot.proofs.Logic.{and-intro, and-left, and-right, every-of, all-at, all-of}
 use Rattle.rules.proofs.RoundTrip.{pack-right, state-back}
 
 -- a list of one element, over and over

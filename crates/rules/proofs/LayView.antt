@@ -11,32 +11,10 @@ use Rattle.slot.specs.declared.ReadEntry.{ReadEntry}
 use Rattle.slot.specs.declared.WriteEntry.{WriteEntry}
 use Rattle.slot.specs.declared.SlotRecord.{SlotRecord}
 use Rattle.slot.specs.Layout.{readCapacity, writeCapacity, noRead, noWrite}
+use Rattle.slot.proofs.Padding.{pad-back}
+use Rattle.slot.specs.Logs.{paddedReads, paddedWrites, readLog, writeLog}
 use Rattle.rules.specs.State.{Slot, idle, opened, locking, twilight, publishing, readsOf, writesOf}
-use Rattle.rules.specs.Layout.{paddedReads, paddedWrites, layBusy, lay, readLog, writeLog, view}
-
-module _ {A : Type 0} (d : A) where
-  -- a padded log has all of its entries
-  pub length-padded : (l : List A) (n : ℕ) → length l ≤ n → length (l ++ replicate (n - length l) d) ≡ n
-  length-padded l n h = simp (length-append, length-replicate) (omega arith)
-
-  -- past a log's count a padded log has zeros
-  pub padded-zero : (l : List A) (n i : ℕ) → length l ≤ i → i < n → getD (l ++ replicate (n - length l) d) i d ≡ d
-  padded-zero l n i h below = go (i - length l) (omega arith) (omega arith)
-    where
-      go : (k : ℕ) → i ≡ length l + k → k < n - length l → getD (l ++ replicate (n - length l) d) i d ≡ d
-      go k e b = rw e (lib.Seq.getD-append-add l (replicate (n - length l) d) k d ∙ getD-replicate (n - length l) k d d b)
-
-  -- a log whose entries past k are zero is its first k entries, padded
-  pub pad-back : (l : List A) (n k : ℕ) → length l ≡ n → k ≤ n → ((i : ℕ) → k ≤ i → i < n → getD l i d ≡ d)
-      → take k l ++ replicate (n - length (take k l)) d ≡ l
-  pad-back l n k e h zero =
-      let cut : length (take k l) ≡ k = length-take-le k l (omega arith) in
-      let zeros : replicate (n - k) d ≡ drop k l =
-      ext-getD d (replicate (n - k) d) (drop k l) (simp (length-replicate, length-drop) (rw e))
-      (λ i b.
-      let below : i < n - k = rw length-replicate at b in
-      getD-replicate (n - k) i d d below ∙ sym (getD-drop k l i d ∙ zero (k + i) (omega arith) (omega arith))) in
-      rw (cut, zeros) (take-append-drop k l)
+use Rattle.rules.specs.Layout.{layBusy, lay, view}
 
 -- the logs of a slot's record are the slot's
 pub read-log : (x : Slot) → readLog (lay x) ≡ readsOf x

@@ -1,7 +1,6 @@
 pub mod Open
 pub mod Edges
 pub mod SheetS
-pub mod Logic
 pub mod LayView
 pub mod Zeros
 pub mod SlotPlace

@@ -17,14 +17,14 @@ use Rattle.slot.specs.declared.WriteEntry.{WriteEntry}
 use Rattle.slot.specs.Layout.{readCapacity, writeCapacity, noRead, noWrite, slotBytes}
 use Rattle.slot.specs.Fit.{Bytewise}
 use Rattle.slot.proofs.RoundTrip.{slot-bytes}
-use Rattle.rules.specs.Logic.{_and_, same, every}
+use Rattle.slot.specs.Logic.{_and_, same, every}
 use Rattle.rules.specs.Model.{Model, areaLength, FitsBytes}
 use Rattle.rules.specs.State.{State, Slot, idle, opened, locking, twilight, publishing, cellCount, cellAt, slotAt, noCell}
 use Rattle.rules.specs.LogsRight.{cellRight, loggedRight, readsRight, writesRight, cellCountRight, holdersRight}
 use Rattle.rules.specs.StateRight.{slotRight, holds, shapeRight, stateRightButHolders, stateHoldersRight}
 use Rattle.rules.specs.Layout.{cellBytes, layBusy, lay, header, pack}
 use Rattle.rules.specs.declared.Cell.{Cell}
-use Rattle.rules.proofs.Logic.{and-left, and-right, every-at, all-at}
+use Rattle.slot.proofs.Logic.{and-left, and-right, every-at, all-at}
 use Rattle.rules.proofs.StateSized.{padded-each, LogsHold, logs-hold, state-sized}
 
 cell-is-bytes : (M : Model) → FitsBytes M → (clock : ℕ) (x : Cell) → cellRight clock x ≡ true → x .holder ≤ M .slots → Bytes (cellBytes (M .stampBytes) x)

@@ -13,7 +13,7 @@ use Rattle.rules.specs.Layout.{pack, stateOf}
 use Rattle.rules.specs.AreaRight.{wellFormedButHolders, areaHoldersRight, wellFormed}
 use Rattle.rules.specs.Area.{unpack}
 use Rattle.rules.specs.RoundTrip.{RoundTrip}
-use Rattle.rules.proofs.Logic.{and-left, and-right}
+use Rattle.slot.proofs.Logic.{and-left, and-right}
 use Rattle.rules.proofs.Places.{Sized, state-packed}
 use Rattle.rules.proofs.Agree.{packed-right}
 use Rattle.rules.proofs.AreaKept.{area-kept, area-sized}

@@ -14,14 +14,14 @@ use Rattle.slot.specs.declared.SlotRecord.{SlotRecord}
 use Rattle.slot.specs.Layout.{readCapacity, writeCapacity, noRead, noWrite, readOf, readSize, writeOf, writeSize, readsAt, writesAt, slotSize, empty, slotOf}
 use Rattle.slot.specs.Fit.{Fitting, Flagged}
 use Rattle.slot.proofs.RoundTrip.{slot-fits}
-use Rattle.rules.specs.Logic.{_and_, _or_, every}
+use Rattle.slot.specs.Logic.{_and_, _or_, every}
 use Rattle.rules.specs.Model.{Model}
-use Rattle.rules.specs.Logs.{someMarked}
+use Rattle.slot.specs.Logs.{someMarked, readLog, writeLog}
 use Rattle.rules.specs.LogsRight.{readsRight, writesRight}
-use Rattle.rules.specs.Layout.{lay, readLog, writeLog, view}
+use Rattle.rules.specs.Layout.{lay, view}
 use Rattle.rules.specs.AreaRight.{zeros, countsRight, flagsRight, unusedZero, takenRight, commitRight, marksRight, ignoringRight, busyRight, slotPlaceRight}
 use Rattle.rules.specs.declared.Cell.{Cell}
-use Rattle.rules.proofs.Logic.{and-left, and-right, or-right, every-at}
+use Rattle.slot.proofs.Logic.{and-left, and-right, or-right, every-at}
 use Rattle.rules.proofs.LayView.{lay-view-1, lay-view-2, lay-view-3, lay-view-4}
 use Rattle.rules.proofs.Zeros.{zeros-at, zero-read, zero-write, zero-slot}
 

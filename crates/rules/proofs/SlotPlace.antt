@@ -16,17 +16,18 @@ use Rattle.slot.specs.Layout.{readCapacity, writeCapacity, noRead, noWrite, bit
 use Rattle.slot.specs.Fit.{Fitting}
 use Rattle.slot.proofs.RoundTrip.{slot-back, ignoring-at, read-bytes-at, write-bytes-at, length-slotBytes}
 use Rattle.wire.specs.Field.{toBe}
-use Rattle.rules.specs.Logic.{_and_, _or_, every}
+use Rattle.slot.specs.Logic.{_and_, _or_, every}
+use Rattle.slot.proofs.Padding.{padded-zero}
 use Rattle.rules.specs.Model.{Model}
 use Rattle.rules.specs.State.{Slot, idle, opened, locking, twilight, publishing, readsOf, writesOf}
-use Rattle.rules.specs.Logs.{someMarked}
+use Rattle.slot.specs.Logs.{someMarked, readLog, writeLog}
 use Rattle.rules.specs.LogsRight.{readsRight, writesRight, commitBetween}
 use Rattle.rules.specs.StateRight.{logsRight, slotRight}
-use Rattle.rules.specs.Layout.{layBusy, lay, readLog, writeLog}
+use Rattle.rules.specs.Layout.{layBusy, lay}
 use Rattle.rules.specs.AreaRight.{zeros, countsRight, flagsRight, unusedZero, takenRight, commitRight, marksRight, ignoringRight, busyRight, slotPlaceRight}
 use Rattle.rules.specs.declared.Cell.{Cell}
-use Rattle.rules.proofs.Logic.{and-assoc, and-true, true-and, true-or, false-or, or-when, and-intro, every-of}
-use Rattle.rules.proofs.LayView.{read-log, write-log, padded-zero}
+use Rattle.slot.proofs.Logic.{and-assoc, and-true, true-and, true-or, false-or, or-when, and-intro, every-of}
+use Rattle.rules.proofs.LayView.{read-log, write-log}
 use Rattle.rules.proofs.Zeros.{zeros-front, empty-bytes}
 
 bit-le : (b : Bool) → leb (bit b) 1 ≡ true

@@ -14,16 +14,17 @@ use Rattle.slot.specs.declared.ReadEntry.{ReadEntry}
 use Rattle.slot.specs.declared.WriteEntry.{WriteEntry}
 use Rattle.slot.specs.Layout.{readCapacity, writeCapacity, noRead, noWrite, empty}
 use Rattle.slot.specs.Fit.{Fitting}
-use Rattle.rules.specs.Logic.{_and_, all, pairwise}
+use Rattle.slot.specs.Logic.{_and_, all, pairwise}
+use Rattle.slot.proofs.Padding.{length-padded, padded-zero}
 use Rattle.rules.specs.Model.{Model, lastStamp, areaLength, cellSize, FitsBytes}
 use Rattle.rules.specs.State.{State, Slot, idle, opened, locking, twilight, publishing, cellCount, cellAt, slotAt, noCell, commitOf}
 use Rattle.rules.specs.LogsRight.{cellRight, loggedRight, readsRight, writesRight, stampsApart, commitBetween, cellCountRight}
 use Rattle.rules.specs.StateRight.{logsRight, slotRight, shapeRight, stateRightButHolders}
-use Rattle.rules.specs.Layout.{paddedReads, paddedWrites, layBusy, lay}
+use Rattle.rules.specs.Layout.{layBusy, lay}
 use Rattle.rules.specs.declared.Cell.{Cell}
-use Rattle.rules.proofs.Logic.{and-left, and-right, all-at}
+use Rattle.slot.specs.Logs.{paddedReads, paddedWrites}
 use Rattle.rules.proofs.CellBytes.{CellFits}
-use Rattle.rules.proofs.LayView.{length-padded, padded-zero}
+use Rattle.slot.proofs.Logic.{and-left, and-right, all-at}
 use Rattle.rules.proofs.Places.{Sized}
 
 -- an entry of a padded log meets what each of the log's entries and the zero entry meet

@@ -14,9 +14,9 @@ use Rattle.wire.specs.Table.{cat, tab}
 use Rattle.wire.proofs.Laws.Field.{be-zero}
 use Rattle.wire.proofs.Laws.Table.{tab-ext}
 use Rattle.slot.specs.Layout.{readCapacity, writeCapacity, noRead, noWrite, readOf, readBytes, readSize, writeOf, writeBytes, writeSize, startAt, commitAt, readsAt, writesAt, slotSize, empty, slotOf, slotBytes}
-use Rattle.rules.specs.Logic.{every}
+use Rattle.slot.specs.Logic.{every}
 use Rattle.rules.specs.AreaRight.{zeros}
-use Rattle.rules.proofs.Logic.{every-at, every-of}
+use Rattle.slot.proofs.Logic.{every-at, every-of}
 
 -- each of the first bytes is zero, and the other way round
 pub zeros-at : (n : ℕ) (l : List ℕ) → zeros n l ≡ true → (i : ℕ) → i < n → getD l i 0 ≡ 0

@@ -10,7 +10,7 @@ use Rattle.call.specs.declared.Reply.{Reply}
 use Rattle.call.specs.declared.Reply.the-variants.{NotWellFormed}
 use Rattle.wire.specs.Field.{be}
 use Rattle.wire.specs.Table.{tab}
-use Rattle.rules.specs.Logic.{_and_, all}
+use Rattle.slot.specs.Logic.{_and_, all}
 use Rattle.rules.specs.Model.{Model, areaLength}
 use Rattle.rules.specs.State.{State, idle}
 use Rattle.rules.specs.Outcome.{Outcome, refused, accepted}

@@ -6,11 +6,11 @@ use lib.Dec.{eqb, ltb, leb}
 use lib.ListN.{length, getD, take, drop}
 use Rattle.slot.specs.declared.SlotRecord.{SlotRecord}
 use Rattle.slot.specs.Layout.{readCapacity, writeCapacity, readSize, writeSize, readsAt, writesAt, empty, slotOf}
-use Rattle.rules.specs.Logic.{_and_, _or_, every, all, pairwise}
+use Rattle.slot.specs.Logic.{_and_, _or_, every, all, pairwise}
 use Rattle.rules.specs.Model.{Model, sizeOfSlot, areaLength}
-use Rattle.rules.specs.Logs.{writesCell, someMarked}
+use Rattle.slot.specs.Logs.{writesCell, someMarked, readLog, writeLog}
 use Rattle.rules.specs.LogsRight.{cellRight, readsRight, writesRight, cellCountRight, commitBetween, stampsApart, holdersRight}
-use Rattle.rules.specs.Layout.{readLog, writeLog, versionIn, lengthIn, countIn, clockIn, slotPlace, cellsIn, recordsIn}
+use Rattle.rules.specs.Layout.{versionIn, lengthIn, countIn, clockIn, slotPlace, cellsIn, recordsIn}
 use Rattle.rules.specs.declared.Cell.{Cell}
 
 -- the first `count` bytes are zero

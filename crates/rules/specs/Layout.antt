@@ -9,7 +9,8 @@ use Rattle.wire.specs.Table.{cat, tab}
 use Rattle.slot.specs.declared.ReadEntry.{ReadEntry}
 use Rattle.slot.specs.declared.WriteEntry.{WriteEntry}
 use Rattle.slot.specs.declared.SlotRecord.{SlotRecord}
-use Rattle.slot.specs.Layout.{readCapacity, writeCapacity, noRead, noWrite, empty, slotOf, slotBytes}
+use Rattle.slot.specs.Layout.{empty, slotOf, slotBytes}
+use Rattle.slot.specs.Logs.{readLog, writeLog, paddedReads, paddedWrites}
 use Rattle.rules.specs.Model.{Model, cellOffset, slotOffset, areaLength}
 use Rattle.rules.specs.State.{State, Slot, idle, opened, locking, twilight, publishing, cellCount, cellAt, slotAt}
 use Rattle.rules.specs.declared.Cell.{Cell}
@@ -20,13 +21,6 @@ cellOf width l = record { kind = getD l 0 0; holder = getD l 1 0; word = be 4 (d
 
 unfoldable pub cellBytes : ℕ → Cell → List ℕ
 cellBytes width x = (x .kind ∷ x .holder ∷ toBe 4 (x .word)) ++ toBe width (x .stamp)
-
--- a log in an array of 16: unused entries all zero
-abbrev pub paddedReads : List ReadEntry → List ReadEntry
-paddedReads reads = reads ++ replicate (readCapacity - length reads) noRead
-
-abbrev pub paddedWrites : List WriteEntry → List WriteEntry
-paddedWrites writes = writes ++ replicate (writeCapacity - length writes) noWrite
 
 -- a slot's record, whole: what its phase does not keep is zero
 abbrev pub layBusy : ℕ → Bool → ℕ → ℕ → ℕ → List ReadEntry → List WriteEntry → SlotRecord
@@ -49,13 +43,6 @@ lay (opened start reads writes) = layBusy 1 false 0 start 0 reads writes
 lay (locking taken start reads writes) = layBusy 2 false taken start 0 reads writes
 lay (twilight ignoring start commit reads writes) = layBusy 3 ignoring 0 start commit reads writes
 lay (publishing ignoring taken start commit reads writes) = layBusy 4 ignoring taken start commit reads writes
-
--- the logs of a record: as many entries as its counts say
-abbrev pub readLog : SlotRecord → List ReadEntry
-readLog v = take (v .readcount) (v .reads)
-
-abbrev pub writeLog : SlotRecord → List WriteEntry
-writeLog v = take (v .writecount) (v .writes)
 
 -- the slot that a record stands for
 unfoldable pub view : SlotRecord → Slot

@@ -1,7 +1,6 @@
-pub mod Logic
 pub mod Model
 pub mod State
-pub mod Logs
+pub mod Cells
 pub mod Outcome
 pub mod Steps
 pub mod Step

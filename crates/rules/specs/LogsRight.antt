@@ -7,7 +7,7 @@ use lib.ListN.{length, getD}
 use Rattle.value.specs.Legal.{legalWord}
 use Rattle.slot.specs.declared.ReadEntry.{ReadEntry}
 use Rattle.slot.specs.declared.WriteEntry.{WriteEntry}
-use Rattle.rules.specs.Logic.{_and_, _or_, same, every, all, pairwise}
+use Rattle.slot.specs.Logic.{_and_, _or_, same, every, all, pairwise}
 use Rattle.rules.specs.Model.{Model}
 use Rattle.rules.specs.State.{noCell}
 use Rattle.rules.specs.declared.Cell.{Cell}

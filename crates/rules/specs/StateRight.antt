@@ -7,10 +7,10 @@ use lib.ListN.{length, take, drop}
 use Rattle.slot.specs.declared.ReadEntry.{ReadEntry}
 use Rattle.slot.specs.declared.WriteEntry.{WriteEntry}
 use Rattle.slot.specs.Layout.{readCapacity, writeCapacity}
-use Rattle.rules.specs.Logic.{_and_, _or_, all, pairwise}
+use Rattle.slot.specs.Logic.{_and_, _or_, all, pairwise}
 use Rattle.rules.specs.Model.{Model, lastStamp}
 use Rattle.rules.specs.State.{State, Slot, idle, opened, locking, twilight, publishing, cellCount, slotAt, commitOf}
-use Rattle.rules.specs.Logs.{writesCell, someMarked}
+use Rattle.slot.specs.Logs.{writesCell, someMarked}
 use Rattle.rules.specs.LogsRight.{cellRight, readsRight, writesRight, cellCountRight, commitBetween, stampsApart, holdersRight}
 use Rattle.rules.specs.declared.Cell.{Cell}
 

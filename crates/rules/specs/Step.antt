@@ -8,7 +8,7 @@ use Rattle.call.specs.declared.Decoded.{Decoded}
 use Rattle.call.specs.declared.Decoded.the-variants.{Made, IllegalWrite, IllegalUpdate, Unknown}
 use Rattle.call.specs.declared.Reply.the-variants.{NoSuchStep, NoSuchSlot}
 use Rattle.call.specs.Decode.{decoded}
-use Rattle.rules.specs.Logic.{_and_}
+use Rattle.slot.specs.Logic.{_and_}
 use Rattle.rules.specs.Model.{Model, lastStep}
 use Rattle.rules.specs.State.{State}
 use Rattle.rules.specs.Outcome.{Outcome, refused, refuseIf}

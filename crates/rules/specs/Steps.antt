@@ -11,10 +11,11 @@ use Rattle.call.specs.declared.Reply.the-variants.{Done, Verdict, Value, NotAll
 use Rattle.slot.specs.declared.ReadEntry.{ReadEntry}
 use Rattle.slot.specs.declared.WriteEntry.{WriteEntry}
 use Rattle.slot.specs.Layout.{readCapacity, writeCapacity, noWrite}
-use Rattle.rules.specs.Logic.{_and_}
+use Rattle.slot.specs.Logic.{_and_}
+use Rattle.slot.specs.Logs.{readEntry, writeEntry, writesCell, putWrite, someMarked}
 use Rattle.rules.specs.Model.{Model}
 use Rattle.rules.specs.State.{State, Slot, idle, opened, locking, twilight, publishing, cellAt, slotAt, turn}
-use Rattle.rules.specs.Logs.{readEntry, writeEntry, writesCell, putWrite, someMarked, heldByOther, newer, withMark, reloaded, obstacle, takenBy, publishedAs, freeAll}
+use Rattle.rules.specs.Cells.{heldByOther, newer, withMark, reloaded, obstacle, takenBy, publishedAs, freeAll}
 use Rattle.rules.specs.Outcome.{Outcome, refused, accepted, whenIdle, whenOpen, whenLocking, whenTwilight, whenPublishing, whenUncommitted, refuseIf, insideCells, fittingValue, inLog, foundOr, belowLastStamp}
 
 -- "Answers kind and word": the word in the cell's kind

@@ -1,3 +1,6 @@
 pub mod Entry
 pub mod RoundTrip
 pub mod Unique
+pub mod Logic
+pub mod Search
+pub mod Padding

@@ -1,2 +1,4 @@
+pub mod Logic
 pub mod Layout
 pub mod Fit
+pub mod Logs

@@ -7,7 +7,7 @@ use native.Mathlib.Omega.{arith}
 use native.Mathlib.Nat.{not-suc-le-zero, le-of-suc-le-suc}
 use lib.ListN.{length, getD}
 use borrow.Author.Count.{below-more}
-use Rattle.rules.specs.Logic.{_and_, _or_, every, all, pairwise}
+use Rattle.slot.specs.Logic.{_and_, _or_, every, all, pairwise}
 
 pub and-intro : (a b : Bool) → a ≡ true → b ≡ true → (a and b) ≡ true
 unfolding _and_
@@ -37,6 +37,11 @@ pub and-true : (b : Bool) → (b and true) ≡ b
 unfolding _and_
 and-true true = refl
 and-true false = refl
+
+pub and-false : (b : Bool) → (b and false) ≡ false
+unfolding _and_
+and-false true = refl
+and-false false = refl
 
 pub false-or : (b : Bool) → (false or b) ≡ b
 unfolding _or_

@@ -1,4 +1,4 @@
--- The logs, and what they and the cells say of each other.
+-- The cells, and what they say of the logs' entries.
 use mathlib.Core.Bool.{Bool, true, false, not, cond}
 use mathlib.Core.List.{List, [], _∷_, map}
 use mathlib.Core.Option.{Option}
@@ -6,39 +6,9 @@ use Prim.Native.Nat.{ℕ, suc}
 use lib.Dec.{eqb, ltb}
 use Rattle.slot.specs.declared.ReadEntry.{ReadEntry}
 use Rattle.slot.specs.declared.WriteEntry.{WriteEntry}
-use Rattle.rules.specs.Logic.{_and_, _or_, any, first}
+use Rattle.slot.specs.Logic.{_and_, _or_, any, first}
 use Rattle.rules.specs.State.{State, cellAt}
 use Rattle.rules.specs.declared.Cell.{Cell}
-
--- the entry of a cell, if the log has one
-unfoldable pub readEntry : List ReadEntry → ℕ → Option ReadEntry
-unfolding first
-readEntry reads c = first (λ (e : ReadEntry). eqb (e .cell) c) reads
-
-unfoldable pub writeEntry : List WriteEntry → ℕ → Option WriteEntry
-unfolding first
-writeEntry writes c = first (λ (e : WriteEntry). eqb (e .cell) c) writes
-
--- the log has the cell
-unfoldable pub readsCell : List ReadEntry → ℕ → Bool
-unfolding any
-readsCell reads c = any (λ (e : ReadEntry). eqb (e .cell) c) reads
-
-unfoldable pub writesCell : List WriteEntry → ℕ → Bool
-unfolding any
-writesCell writes c = any (λ (e : WriteEntry). eqb (e .cell) c) writes
-
--- puts or replaces the entry in the write log, which ascends by cell
-unfoldable pub putWrite : WriteEntry → List WriteEntry → List WriteEntry
-putWrite e [] = e ∷ []
-putWrite e (x ∷ writes) =
-    cond (ltb (e .cell) (x .cell)) (e ∷ x ∷ writes)
-    (cond (eqb (e .cell) (x .cell)) (e ∷ writes)
-    (x ∷ putWrite e writes))
-
-unfoldable pub someMarked : List ReadEntry → Bool
-unfolding any
-someMarked reads = any (λ (e : ReadEntry). e .mark) reads
 
 -- a cell is held by a slot other than i; it has a stamp above start
 unfoldable pub heldByOther : ℕ → Cell → Bool

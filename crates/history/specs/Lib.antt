@@ -1,0 +1,5 @@
+pub mod History
+pub mod AreaHistory
+pub mod Slips
+pub mod Keeps
+pub mod Frame
