@@ -1,15 +1,13 @@
 -- A step's number comes back: each number up to 14 decodes to its own step by computation, and no other number to any.
-use mathlib.Core.List.{List}
-use mathlib.Core.Path.{_≡_, refl, sym, _∙_, ap}
-use Prim.Native.Nat.{ℕ, zero, suc, _≤_}
+use mathlib.Core.Path.{_≡_, ap}
+use Prim.Native.Nat.{ℕ, zero, suc}
 use native.Mathlib.Omega.{arith}
 use Rattle.value.specs.declared.Parsed.{Parsed}
 use Rattle.value.specs.declared.Parsed.the-variants.{Legal, Illegal}
 use Rattle.value.specs.Value.{parsed}
 use Rattle.call.specs.declared.Step.{Step}
 use Rattle.call.specs.declared.Step.the-variants.{Begin, Read, Write, Close, Lock, Enter, Reread, Update, Ask, Reload, Ignore, Finish, Publish, GiveUp}
-use Rattle.call.specs.declared.Decoded.{Decoded}
-use Rattle.call.specs.declared.Decoded.the-variants.{Made, IllegalWrite, IllegalUpdate, Unknown}
+use Rattle.call.specs.declared.Decoded.the-variants.{Made}
 use Rattle.call.specs.Decode.{stepNumber, aWrite, anUpdate, decoded}
 use Rattle.call.proofs.Unknown.{unknown-outside}
 

@@ -1,34 +1,23 @@
 -- One step further: every move keeps what is kept along a history, with the commit or the read that it makes.
-use mathlib.Core.Bool.{Bool, true, false, not, cond}
+use mathlib.Core.Bool.{Bool, true, false, not}
 use mathlib.Core.List.{List, [], _∷_, _++_, map, append-nil}
-use mathlib.Core.Option.{Option, none, some}
-use mathlib.Core.Path.{_≡_, refl, sym, _∙_, ap, subst}
-use Prim.Native.Nat.{ℕ, zero, suc, pred, _<_, _≤_}
+use mathlib.Core.Option.{none}
+use mathlib.Core.Path.{_≡_, refl, sym, subst}
+use Prim.Native.Nat.{ℕ, suc, _<_, _≤_}
 use native.Mathlib.Omega.{arith}
-use lib.Dec.{eqb, leb, leb→le}
 use lib.ListN.{length, getD, set, length-set}
-use borrow.Author.Tests.{ne-eqb, ltb-false, not-true}
-use Rattle.value.specs.Value.{kindOf, wordOf, valueOf}
-use Rattle.value.proofs.RoundTrip.{kind-back, word-back}
+use borrow.Author.Tests.{not-true}
 use Rattle.call.specs.declared.Step.{Step}
-use Rattle.call.specs.declared.Step.the-variants.{Begin, Read, Write, Close, Lock, Enter, Reread, Update, Ask, Reload, Ignore, Finish, Publish, GiveUp}
-use Rattle.call.specs.declared.Decoded.the-variants.{Made}
 use Rattle.call.specs.declared.Reply.{Reply}
-use Rattle.call.specs.Answer.{replyCode}
-use Rattle.call.specs.Decode.{stepNumber, decoded}
-use Rattle.call.proofs.Number.{number-back}
 use Rattle.slot.specs.declared.ReadEntry.{ReadEntry}
 use Rattle.slot.specs.declared.WriteEntry.{WriteEntry}
-use Rattle.slot.specs.Logs.{writesCell, readsCell, putWrite}
+use Rattle.slot.specs.Logs.{putWrite}
 use Rattle.rules.specs.declared.Cell.{Cell}
-use Rattle.slot.specs.Logic.{_and_, All}
-use Rattle.slot.proofs.Logic.{and-false}
+use Rattle.slot.specs.Logic.{All}
 use Rattle.rules.specs.Model.{Model}
 use Rattle.rules.specs.State.{State, Slot, idle, opened, locking, twilight, publishing, cellCount, cellAt, slotAt, turn}
 use Rattle.rules.specs.Cells.{heldByOther, newer, withMark, reloaded, obstacle, publishedAs, freeAll}
-use Rattle.rules.specs.Outcome.{Outcome, refused, accepted, replyOf, after}
-use Rattle.rules.specs.Step.{Call, step}
-use Rattle.history.specs.History.{Event, ownSlot, accepts, Commit, committedBy, SharedRead, fromShared, readBy, logAt}
+use Rattle.history.specs.History.{Commit, SharedRead, logAt}
 use Rattle.history.proofs.Cases.{Uncommitted, is-open, is-locking, is-twilight}
 use Rattle.history.proofs.Move.{newRead, newWrite, Move, began, read-written, read-again, read-first, wrote, closed, locked, entered, reread-done, updated, ask-done, reloading, ignored, nothing-to-ignore, aborted, committed, published, gave-up}
 use Rattle.history.proofs.Record.{made, seen}

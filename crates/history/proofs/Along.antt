@@ -2,7 +2,7 @@
 use mathlib.Core.Bool.{Bool, true, false, not, cond}
 use mathlib.Core.List.{List, [], _∷_, _++_}
 use mathlib.Core.Path.{_≡_, refl, sym, _∙_, ap, subst}
-use Prim.Native.Nat.{ℕ, zero, suc, pred, _<_, _≤_}
+use Prim.Native.Nat.{ℕ, pred, _<_, _≤_}
 use native.Mathlib.Omega.{arith}
 use lib.Dec.{eqb}
 use lib.ListN.{length}
@@ -19,7 +19,7 @@ use Rattle.slot.proofs.Logic.{and-intro}
 use Rattle.history.specs.History.{Commit, committedBy, SharedRead, logAt}
 use Rattle.history.proofs.Right.{Right}
 use Rattle.history.proofs.Keeps.Lists.{pairwise-snoc}
-use Rattle.history.proofs.Invariant.{LogKnown, Settled, ReadsKnown, Inv, Stable, turned, All-map, All-snoc}
+use Rattle.history.proofs.Invariant.{Settled, ReadsKnown, Inv, Stable, turned, All-map, All-snoc}
 use Rattle.history.proofs.Turn.{Turn, turn-stable, turn-inv, unmarked-stays}
 use Rattle.history.proofs.Commit.{owing-case, between, other-stamp, commit-stable, commit-inv}
 

@@ -1,5 +1,5 @@
 -- One eliminator for each test that a step's row is made of: what holds of a refusal, and of how the step goes on, holds of the row.
-use mathlib.Core.Bool.{Bool, true, false, cond, not}
+use mathlib.Core.Bool.{Bool, true, false, cond}
 use mathlib.Core.List.{List}
 use mathlib.Core.Option.{Option, none, some}
 use mathlib.Core.Path.{_≡_, refl}
@@ -11,7 +11,7 @@ use Rattle.call.specs.Answer.{replyCode}
 use Rattle.slot.specs.declared.ReadEntry.{ReadEntry}
 use Rattle.slot.specs.declared.WriteEntry.{WriteEntry}
 use Rattle.rules.specs.State.{Slot, idle, opened, locking, twilight, publishing}
-use Rattle.rules.specs.Outcome.{Outcome, refused, accepted, whenIdle, whenOpen, whenLocking, whenTwilight, whenPublishing, whenUncommitted, refuseIf, inLog, foundOr}
+use Rattle.rules.specs.Outcome.{Outcome, refused, whenIdle, whenOpen, whenLocking, whenTwilight, whenPublishing, whenUncommitted, refuseIf, inLog, foundOr}
 
 -- not committed yet: open, locking or twilight
 pub data Uncommitted : Slot → Type 0 where

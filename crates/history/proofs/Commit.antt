@@ -1,29 +1,27 @@
 -- A committing finish keeps the invariant: its stamp is new, it holds what it has written, and what is settled below its stamp does not see it.
-use mathlib.Core.Bool.{Bool, true, false, not, cond, false≢true}
+use mathlib.Core.Bool.{Bool, true, false, false≢true}
 use mathlib.Core.List.{List, [], _∷_}
 use mathlib.Core.Logic.{_⊎_, inl, inr, ⊎-elim}
-use mathlib.Core.Option.{Option, none, some}
+use mathlib.Core.Option.{none}
 use mathlib.Core.Path.{_≡_, refl, sym, _∙_, ap, subst}
-use Prim.Native.Nat.{ℕ, zero, suc, pred, _<_, _≤_}
+use Prim.Native.Nat.{ℕ, _<_, _≤_}
 use native.Mathlib.Omega.{arith}
-use lib.Dec.{eqb, ltb, leb}
+use lib.Dec.{eqb, ltb}
 use lib.ListN.{length, drop}
 use borrow.Author.Tests.{eqb-true, eqb-false, ltb-true, lt-ltb, leb-true}
 use Rattle.slot.specs.declared.ReadEntry.{ReadEntry}
 use Rattle.slot.specs.declared.WriteEntry.{WriteEntry}
-use Rattle.rules.specs.declared.Cell.{Cell}
-use Rattle.slot.specs.Logic.{_and_, any, first}
+use Rattle.slot.specs.Logic.{any, first}
 use Rattle.rules.specs.Model.{Model}
-use Rattle.rules.specs.State.{State, Slot, idle, opened, locking, twilight, publishing, cellCount, cellAt, slotAt, noCell, turn, commitOf}
+use Rattle.rules.specs.State.{State, Slot, idle, opened, locking, twilight, publishing, cellCount, cellAt, slotAt, turn, commitOf}
 use Rattle.slot.specs.Logs.{writeEntry, writesCell}
 use Rattle.rules.specs.LogsRight.{commitBetween}
 use Rattle.rules.specs.StateRight.{holds, slotRight}
 use Rattle.rules.specs.Steps.{publishingOrIdle}
 use Rattle.slot.proofs.Logic.{and-left, and-right}
-use Rattle.history.specs.History.{upTo}
 use Rattle.history.proofs.Right.{Right}
 use Rattle.history.proofs.Keeps.Lists.{cond-elim}
-use Rattle.history.proofs.Invariant.{LateWrite, Owes, LogKnown, Settled, ReadsKnown, Inv, Stable, turned, turned-own, turned-other}
+use Rattle.history.proofs.Invariant.{LateWrite, Owes, LogKnown, ReadsKnown, Inv, Stable, turned, turned-own, turned-other}
 use Rattle.history.proofs.Replay.{lacks, upTo-same}
 use Rattle.history.proofs.Turn.{reads-stay}
 

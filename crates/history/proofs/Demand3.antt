@@ -1,39 +1,32 @@
 -- Demand 3: what holds at rest is kept along any list of calls, and says at the end what the demand says.
-use mathlib.Core.Bool.{Bool, true, false, not, cond, false≢true}
+use mathlib.Core.Bool.{Bool, true, false, false≢true}
 use mathlib.Core.List.{List, [], _∷_, _++_, append-nil, append-assoc}
-use mathlib.Core.Path.{_≡_, refl, sym, _∙_, ap, subst}
-use Prim.Native.Nat.{ℕ, zero, suc, pred, _<_, _≤_}
+use mathlib.Core.Path.{_≡_, refl, sym, _∙_, ap}
+use Prim.Native.Nat.{ℕ, suc, pred, _<_}
 use native.Mathlib.Omega.{arith}
-use lib.Dec.{eqb, ltb}
+use lib.Dec.{ltb}
 use lib.ListN.{length, List·getD-eq-default}
 use borrow.Author.Tests.{ltb-true, ltb-false}
-use Rattle.call.specs.declared.Step.{Step}
-use Rattle.call.specs.declared.Decoded.the-variants.{Made}
-use Rattle.call.specs.declared.Reply.{Reply}
-use Rattle.call.specs.Decode.{decoded}
 use Rattle.call.proofs.Number.{number-back}
 use Rattle.slot.specs.declared.ReadEntry.{ReadEntry}
-use Rattle.slot.specs.declared.WriteEntry.{WriteEntry}
-use Rattle.slot.specs.Logic.{_or_, any, all, pairwise, All}
+use Rattle.slot.specs.Logic.{any, pairwise, All}
 use Rattle.rules.specs.Model.{Model}
-use Rattle.rules.specs.State.{State, Slot, idle, opened, locking, twilight, publishing, cellCount, cellAt, slotAt, commitOf, isPublishing}
+use Rattle.rules.specs.State.{State, Slot, idle, opened, locking, twilight, publishing, cellCount, cellAt, slotAt, isPublishing}
 use Rattle.slot.specs.Logs.{writesCell, someMarked}
-use Rattle.rules.specs.StateRight.{stateRight, stateAtRest, isIdle, holds}
-use Rattle.rules.specs.Outcome.{Outcome, refused, accepted, replyOf, after}
+use Rattle.rules.specs.StateRight.{stateAtRest, isIdle}
+use Rattle.rules.specs.Outcome.{replyOf, after}
 use Rattle.rules.specs.Step.{Call, step}
 use Rattle.slot.proofs.Logic.{and-left, and-right, all-at}
 use Rattle.history.specs.History.{Event, history, final, Commit, commits, SharedRead, sharedReads, logAt, upTo, replay, publishes, Demand3}
-use Rattle.history.proofs.Cases.{Refusal}
-use Rattle.history.proofs.Move.{Move}
 use Rattle.history.proofs.StepCase.{step-case}
 use Rattle.history.proofs.Right.{Right, right-of}
 use Rattle.history.proofs.Keeps.Lists.{or-neither}
 use Rattle.history.proofs.Keeps.Moves.{move-right}
 use Rattle.history.proofs.Keeps.Effect.{effect, change-kinds}
-use Rattle.history.proofs.Invariant.{LateWrite, Owes, LogKnown, Settled, ReadsKnown, Inv, All-map, All-both}
+use Rattle.history.proofs.Invariant.{Owes, Settled, Inv, All-map, All-both}
 use Rattle.history.proofs.Replay.{quiet}
 use Rattle.history.proofs.Holders.{owes-holds, is-holder, stamp-past, cell-now}
-use Rattle.history.proofs.Along.{Along, begun, Fresh, ReadHolds, EntriesHold}
+use Rattle.history.proofs.Along.{Along, begun, ReadHolds, EntriesHold}
 use Rattle.history.proofs.Record.{commitIn, readIn, event, other-code, refusal-code, no-commit, no-read, records-commit, records-read}
 use Rattle.history.proofs.Advance.{advance}
 

@@ -1,21 +1,20 @@
 -- Demand 3 for areas: on a well-formed area the step on bytes does what the step does on the state in it, so both have the same history.
-use mathlib.Core.Bool.{Bool, true}
+use mathlib.Core.Bool.{true}
 use mathlib.Core.List.{List, [], _∷_}
-use mathlib.Core.Path.{_≡_, refl, sym, _∙_, ap, ap₂}
+use mathlib.Core.Path.{_≡_, refl, _∙_, ap, ap₂}
 use Prim.Native.Nat.{ℕ}
 use Rattle.wire.specs.Field.{Bytes}
-use Rattle.slot.specs.Logic.{_and_, all}
 use Rattle.slot.proofs.Logic.{and-intro, and-left, and-right}
 use Rattle.rules.specs.Model.{Model, FitsBytes}
 use Rattle.rules.specs.State.{State}
 use Rattle.rules.specs.StateRight.{stateRight, stateAtRest}
 use Rattle.rules.specs.Outcome.{Outcome, refused, accepted, replyOf, after}
 use Rattle.rules.specs.Step.{Call, step}
-use Rattle.rules.specs.Layout.{pack, stateOf}
+use Rattle.rules.specs.Layout.{stateOf}
 use Rattle.rules.specs.AreaRight.{wellFormed}
 use Rattle.rules.specs.Area.{Answered, answered, stepOnBytes, atRest}
-use Rattle.rules.proofs.RoundTrip.{pack-state, state-right, state-back}
-use Rattle.history.specs.History.{Event, history, final, Demand3}
+use Rattle.rules.proofs.RoundTrip.{state-right, state-back}
+use Rattle.history.specs.History.{history, final}
 use Rattle.history.specs.AreaHistory.{areaHistory, Histories}
 use Rattle.history.specs.Keeps.{bytesAfter}
 use Rattle.history.proofs.Keeps.{keeps}

@@ -1,19 +1,19 @@
 -- Who holds a cell: where no other slot does, no other slot will write it late or owes it, so the replay up to any later stamp is the cell's own word.
-use mathlib.Core.Bool.{Bool, true, false, not, false≢true}
-use mathlib.Core.List.{List, []}
+use mathlib.Core.Bool.{Bool, true, false, false≢true}
+use mathlib.Core.List.{List}
 use mathlib.Core.Logic.{⊎-elim}
-use mathlib.Core.Path.{_≡_, refl, sym, _∙_, ap, subst}
+use mathlib.Core.Path.{_≡_, refl, sym, _∙_}
 use Prim.Native.Nat.{ℕ, suc, _<_, _≤_}
 use native.Mathlib.Omega.{arith}
-use lib.Dec.{eqb, ltb}
-use lib.ListN.{length, drop, List·getD-eq-default}
-use borrow.Author.Tests.{leb-true, eqb-true, eqb-false, eq-eqb, ne-eqb, ltb-true, ltb-false}
+use lib.Dec.{ltb}
+use lib.ListN.{length, List·getD-eq-default}
+use borrow.Author.Tests.{leb-true, eqb-true, ne-eqb, ltb-true, ltb-false}
 use Rattle.slot.specs.declared.WriteEntry.{WriteEntry}
 use Rattle.slot.proofs.Logic.{and-right}
 use Rattle.rules.specs.declared.Cell.{Cell}
 use Rattle.slot.specs.Logic.{_and_}
 use Rattle.rules.specs.Model.{Model}
-use Rattle.rules.specs.State.{State, Slot, idle, opened, locking, twilight, publishing, cellCount, cellAt, slotAt, noCell, commitOf}
+use Rattle.rules.specs.State.{State, Slot, idle, opened, locking, twilight, publishing, cellCount, cellAt, slotAt, noCell}
 use Rattle.rules.specs.Cells.{heldByOther}
 use Rattle.rules.specs.LogsRight.{cellRight}
 use Rattle.rules.specs.StateRight.{holds}

@@ -2,11 +2,10 @@
 use mathlib.Core.Bool.{Bool, true, false}
 use mathlib.Core.List.{List, [], _∷_, _++_, map}
 use mathlib.Core.Logic.{_⊎_}
-use mathlib.Core.Path.{_≡_, refl, sym, _∙_, ap, subst}
-use Prim.Native.Nat.{ℕ, zero, suc, pred, _<_, _≤_}
-use native.Mathlib.Omega.{arith}
+use mathlib.Core.Path.{_≡_, refl}
+use Prim.Native.Nat.{ℕ, pred, _<_, _≤_}
 use lib.Dec.{eqb}
-use lib.ListN.{length, getD, set, drop}
+use lib.ListN.{length, drop}
 use lib.Seq.{getD-set-same, getD-set-other}
 use borrow.Author.Tests.{eqb-true, eqb-false}
 use Rattle.slot.specs.declared.ReadEntry.{ReadEntry}
@@ -15,7 +14,7 @@ use Rattle.rules.specs.declared.Cell.{Cell}
 use Rattle.slot.specs.Logic.{all, All}
 use Rattle.slot.proofs.Logic.{and-left, and-right}
 use Rattle.rules.specs.Model.{Model}
-use Rattle.rules.specs.State.{State, Slot, idle, opened, locking, twilight, publishing, cellCount, cellAt, slotAt, noCell, turn, commitOf}
+use Rattle.rules.specs.State.{State, Slot, idle, opened, locking, twilight, publishing, cellCount, cellAt, slotAt, turn, commitOf}
 use Rattle.slot.specs.Logs.{writesCell}
 use Rattle.rules.specs.StateRight.{holds}
 use Rattle.history.specs.History.{upTo}

@@ -1,32 +1,26 @@
 -- The reads that a move makes known: a first read at its start, an unmarked entry at enter and every entry at reload just before the new stamp.
-use mathlib.Core.Bool.{Bool, true, false, not, cond, false≢true}
-use mathlib.Core.List.{List, [], _∷_, _++_, map}
-use mathlib.Core.Option.{Option, none, some}
-use mathlib.Core.Path.{_≡_, refl, sym, _∙_, ap, subst}
-use Prim.Native.Nat.{ℕ, zero, suc, pred, _<_, _≤_}
+use mathlib.Core.Bool.{true, false, false≢true}
+use mathlib.Core.List.{List}
+use mathlib.Core.Path.{_≡_, sym, _∙_}
+use Prim.Native.Nat.{ℕ, suc, _<_, _≤_}
 use native.Mathlib.Omega.{arith}
-use lib.Dec.{eqb, ltb, leb}
 use lib.ListN.{length}
-use borrow.Author.Tests.{ltb-true, ltb-false, not-true}
+use borrow.Author.Tests.{ltb-true, ltb-false}
 use Rattle.slot.specs.declared.ReadEntry.{ReadEntry}
 use Rattle.slot.specs.declared.WriteEntry.{WriteEntry}
 use Rattle.rules.specs.declared.Cell.{Cell}
-use Rattle.slot.specs.Logic.{_or_, all, All}
+use Rattle.slot.specs.Logic.{All}
 use Rattle.rules.specs.Model.{Model}
 use Rattle.rules.specs.State.{State, Slot, idle, opened, locking, twilight, publishing, cellCount, cellAt, slotAt, turn, readsOf, writesOf, startOf}
-use Rattle.rules.specs.Cells.{heldByOther, newer, withMark, reloaded, obstacle}
+use Rattle.rules.specs.Cells.{heldByOther, newer, withMark}
 use Rattle.rules.specs.LogsRight.{loggedRight, readsRight}
-use Rattle.rules.specs.StateRight.{slotRight, logsRight, isIdle}
+use Rattle.rules.specs.StateRight.{slotRight, isIdle}
 use Rattle.slot.proofs.Logic.{and-left}
 use Rattle.rules.proofs.StateSized.{LogsHold, logs-hold}
-use Rattle.history.specs.History.{upTo}
-use Rattle.history.proofs.Right.{Right}
-use Rattle.history.proofs.Keeps.Lists.{or-neither, first-none}
-use Rattle.history.proofs.Move.{newRead}
-use Rattle.history.proofs.Invariant.{LateWrite, Owes, Settled, ReadsKnown, Inv, All-map, All-both, All-snoc, All-mapped, all-each}
+use Rattle.history.proofs.Keeps.Lists.{or-neither}
+use Rattle.history.proofs.Invariant.{LateWrite, Owes, Settled, Inv, All-map, all-each}
 use Rattle.history.proofs.Replay.{quiet}
 use Rattle.history.proofs.Holders.{stamp-past, no-later, cell-now}
-use Rattle.history.proofs.Turn.{Turn, turn-stable, each-stays}
 use Rattle.history.proofs.Turns.{paid, quiet-after}
 
 -- the logs of a slot that is not idle are right

@@ -1,29 +1,28 @@
 -- Each accepted step is one of these moves, with what its tests have shown. The theorems about steps go by cases on the move and look at no test again.
-use mathlib.Core.Bool.{Bool, true, false, cond, not}
+use mathlib.Core.Bool.{Bool, true, false, not}
 use mathlib.Core.List.{List, [], _∷_, _++_, map}
-use mathlib.Core.Option.{Option, none, some}
-use mathlib.Core.Path.{_≡_, refl, sym, _∙_, ap}
+use mathlib.Core.Option.{none, some}
+use mathlib.Core.Path.{_≡_, refl}
 use Prim.Native.Nat.{ℕ, suc, _<_, _≤_}
 use lib.Dec.{eqb, ltb, leb}
 use lib.ListN.{length, getD, set}
-use borrow.Author.Tests.{leb-false, ltb-true, ltb-false, eqb-true, eqb-false, not-false}
+use borrow.Author.Tests.{leb-false, ltb-false, eqb-true, eqb-false, not-false}
 use Rattle.value.specs.declared.CellValue.{CellValue}
 use Rattle.value.specs.Legal.{legalWord}
-use Rattle.value.specs.Value.{kindOf, wordOf, valueOf}
+use Rattle.value.specs.Value.{kindOf, wordOf}
 use Rattle.call.specs.declared.Step.{Step}
 use Rattle.call.specs.declared.Step.the-variants.{Begin, Read, Write, Close, Lock, Enter, Reread, Update, Ask, Reload, Ignore, Finish, Publish, GiveUp}
 use Rattle.call.specs.declared.Reply.{Reply}
-use Rattle.call.specs.declared.Reply.the-variants.{Done, Verdict, Value, NotAllowed, NoSuchCell, IllegalValue, OtherKind, LogFull, ReadHeld, ReadNewer, LockHeld, ReloadHeld, LastStamp, Aborted}
+use Rattle.call.specs.declared.Reply.the-variants.{Done, Verdict, NotAllowed, NoSuchCell, IllegalValue, OtherKind, LogFull, ReadHeld, ReadNewer, LastStamp, Aborted}
 use Rattle.slot.specs.declared.ReadEntry.{ReadEntry}
 use Rattle.slot.specs.declared.WriteEntry.{WriteEntry}
 use Rattle.slot.specs.Layout.{readCapacity, writeCapacity, noWrite}
 use Rattle.slot.specs.Logs.{readEntry, writeEntry, writesCell, putWrite, someMarked}
-use Rattle.rules.specs.declared.Cell.{Cell}
 use Rattle.slot.specs.Logic.{_and_}
 use Rattle.rules.specs.Model.{Model, lastStamp}
-use Rattle.rules.specs.State.{State, Slot, idle, opened, locking, twilight, publishing, cellCount, cellAt, slotAt, turn}
+use Rattle.rules.specs.State.{State, idle, opened, locking, twilight, publishing, cellCount, cellAt, slotAt, turn}
 use Rattle.rules.specs.Cells.{heldByOther, newer, withMark, reloaded, obstacle, takenBy, publishedAs, freeAll}
-use Rattle.rules.specs.Outcome.{Outcome, refused, accepted, whenIdle, whenOpen, whenLocking, whenTwilight, whenPublishing, whenUncommitted, refuseIf, insideCells, fittingValue, inLog, foundOr, belowLastStamp}
+use Rattle.rules.specs.Outcome.{Outcome, refused, accepted, insideCells, fittingValue, belowLastStamp}
 use Rattle.rules.specs.Steps.{answer, begin, readShared, read, write, close, lock, enter, reread, update, ask, reload, ignore, publishingOrIdle, finish, publish, giveUp}
 use Rattle.rules.specs.Step.{row}
 use Rattle.history.proofs.Cases.{Uncommitted, Refusal, cond-case, refuse-case, log-case, found-case, idle-case, open-case, locking-case, twilight-case, publishing-case, uncommitted-case}

@@ -1,23 +1,23 @@
 -- A publish keeps the invariant: the cell gets the word that the replay has at the slot's stamp, which is above every other stamp that writes the cell.
-use mathlib.Core.Bool.{Bool, true, false, not, false≢true}
+use mathlib.Core.Bool.{Bool, true, false, false≢true}
 use mathlib.Core.List.{List, [], _∷_}
 use mathlib.Core.Logic.{_⊎_, inl, inr, ⊎-elim}
-use mathlib.Core.Option.{Option, none, some}
+use mathlib.Core.Option.{some}
 use mathlib.Core.Path.{_≡_, refl, sym, _∙_, ap, subst}
 use Prim.Native.Nat.{ℕ, zero, suc, _<_, _≤_}
 use native.Mathlib.Nat.{not-suc-le-zero, le-of-suc-le-suc}
 use native.Mathlib.Omega.{arith}
-use lib.Dec.{eqb, ltb, leb}
+use lib.Dec.{eqb, ltb}
 use lib.ListN.{length, getD, set, drop, length-set, length-drop}
-use borrow.Author.Tests.{eqb-true, eqb-false, eq-eqb, ne-eqb, ltb-true, ltb-false, leb-true}
+use borrow.Author.Tests.{eqb-true, eqb-false, eq-eqb, ne-eqb, ltb-true}
 use Rattle.slot.specs.declared.ReadEntry.{ReadEntry}
 use Rattle.slot.specs.declared.WriteEntry.{WriteEntry}
 use Rattle.slot.specs.Layout.{noWrite}
 use Rattle.slot.proofs.Logic.{and-left, and-right, or-true, all-at}
 use Rattle.rules.specs.declared.Cell.{Cell}
-use Rattle.slot.specs.Logic.{_and_, _or_, all, first, pairwise}
+use Rattle.slot.specs.Logic.{_or_, first, pairwise}
 use Rattle.rules.specs.Model.{Model}
-use Rattle.rules.specs.State.{State, Slot, idle, opened, locking, twilight, publishing, cellCount, cellAt, slotAt, noCell, turn, commitOf}
+use Rattle.rules.specs.State.{State, Slot, publishing, cellCount, cellAt, slotAt, noCell, turn, commitOf}
 use Rattle.rules.specs.Cells.{publishedAs}
 use Rattle.rules.specs.LogsRight.{loggedRight, writesRight, commitBetween}
 use Rattle.rules.specs.StateRight.{holds, slotRight}
@@ -28,9 +28,9 @@ use Rattle.history.specs.History.{upTo}
 use Rattle.history.proofs.Right.{Right}
 use Rattle.history.proofs.Keeps.Lists.{set-elim}
 use Rattle.history.proofs.Keeps.Logs.{published-one, published-once}
-use Rattle.history.proofs.Invariant.{LateWrite, Owes, LogKnown, Settled, ReadsKnown, Inv, Stable, turned, turned-own, turned-other}
+use Rattle.history.proofs.Invariant.{LateWrite, Owes, LogKnown, ReadsKnown, Inv, Stable, turned, turned-own, turned-other}
 use Rattle.history.proofs.Replay.{written}
-use Rattle.history.proofs.Holders.{is-holder, one-holder, owes-holds}
+use Rattle.history.proofs.Holders.{one-holder, owes-holds}
 use Rattle.history.proofs.Turn.{reads-stay}
 use Rattle.history.proofs.Commit.{some-written, owing-case, owing-owes, owing-late, owing-log, owing-reads}
 

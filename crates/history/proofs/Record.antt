@@ -1,14 +1,13 @@
 -- What a call records in the history is what its move makes: a commit for a committing finish, a read for a first read, and nothing else.
-use mathlib.Core.Bool.{Bool, true, false, not, cond}
+use mathlib.Core.Bool.{true, false, not, cond}
 use mathlib.Core.List.{List, [], _∷_}
-use mathlib.Core.Option.{Option, none, some}
-use mathlib.Core.Path.{_≡_, refl, sym, _∙_, ap, subst}
-use Prim.Native.Nat.{ℕ, pred, _<_, _≤_}
+use mathlib.Core.Option.{none, some}
+use mathlib.Core.Path.{_≡_, sym, _∙_, ap}
+use Prim.Native.Nat.{ℕ, pred, _<_}
 use native.Mathlib.Omega.{arith}
-use lib.Dec.{eqb, leb, leb→le}
+use lib.Dec.{eqb, leb→le}
 use borrow.Author.Tests.{ne-eqb}
 use Rattle.value.specs.Legal.{legalWord}
-use Rattle.value.specs.Value.{kindOf, wordOf, valueOf}
 use Rattle.value.proofs.RoundTrip.{kind-back, word-back}
 use Rattle.call.specs.declared.Step.{Step}
 use Rattle.call.specs.declared.Step.the-variants.{Read}
@@ -19,9 +18,9 @@ use Rattle.call.specs.Answer.{replyCode}
 use Rattle.call.specs.Decode.{stepNumber, decoded}
 use Rattle.slot.specs.declared.ReadEntry.{ReadEntry}
 use Rattle.slot.specs.declared.WriteEntry.{WriteEntry}
-use Rattle.slot.specs.Logic.{_and_, any}
+use Rattle.slot.specs.Logic.{_and_}
 use Rattle.rules.specs.Model.{Model}
-use Rattle.rules.specs.State.{State, Slot, opened, twilight, cellCount, cellAt, slotAt, writesOf, readsOf, startOf}
+use Rattle.rules.specs.State.{State, opened, twilight, cellCount, cellAt, slotAt, writesOf, readsOf}
 use Rattle.slot.specs.Logs.{readEntry, writeEntry, readsCell, writesCell}
 use Rattle.rules.specs.LogsRight.{cellRight}
 use Rattle.rules.specs.Steps.{answer}

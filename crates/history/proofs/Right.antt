@@ -1,5 +1,5 @@
 -- "Well formed" of a state as facts about each cell and slot, with no index to bound: a slot or a cell that is not there is idle and free.
-use mathlib.Core.Bool.{Bool, true, false, not, false≢true}
+use mathlib.Core.Bool.{Bool, true, false}
 use mathlib.Core.List.{List, [], _∷_}
 use mathlib.Core.Path.{_≡_, refl, sym, _∙_, ap}
 use Prim.Native.Nat.{ℕ, zero, suc, _<_, _≤_}
@@ -7,10 +7,8 @@ use native.Mathlib.Nat.{not-suc-le-zero, le-of-suc-le-suc}
 use native.Mathlib.Omega.{arith}
 use lib.Dec.{eqb, ltb, leb}
 use lib.ListN.{length, getD, List·getD-eq-default}
-use borrow.Author.Tests.{leb-true, eqb-true, eqb-false, eq-eqb, ne-eqb, ltb-true, ltb-false, not-true}
-use Rattle.slot.specs.declared.WriteEntry.{WriteEntry}
-use Rattle.rules.specs.declared.Cell.{Cell}
-use Rattle.slot.specs.Logic.{_and_, _or_, same, every, all, any, pairwise}
+use borrow.Author.Tests.{leb-true, eqb-true, eqb-false, ltb-true, ltb-false, not-true}
+use Rattle.slot.specs.Logic.{_and_, _or_, same, every, pairwise}
 use Rattle.rules.specs.Model.{Model, lastStamp}
 use Rattle.rules.specs.State.{State, Slot, idle, cellCount, cellAt, slotAt, commitOf, noCell}
 use Rattle.rules.specs.LogsRight.{cellRight, cellCountRight, stampsApart, holdersRight}

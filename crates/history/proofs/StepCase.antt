@@ -1,8 +1,7 @@
 -- What holds of every refusal and of every move holds of the step that any call makes.
-use mathlib.Core.Bool.{Bool, true, false, not}
-use mathlib.Core.List.{List}
+use mathlib.Core.Bool.{true, not}
 use mathlib.Core.Path.{_≡_, refl}
-use Prim.Native.Nat.{ℕ, pred, _<_, _≤_}
+use Prim.Native.Nat.{ℕ, pred, _<_}
 use native.Mathlib.Omega.{arith}
 use lib.Dec.{leb}
 use borrow.Author.Tests.{leb-true, not-false}
@@ -14,10 +13,10 @@ use Rattle.call.specs.declared.Reply.the-variants.{NoSuchStep, NoSuchSlot, NoSu
 use Rattle.call.specs.Decode.{decoded}
 use Rattle.slot.specs.Logic.{_and_}
 use Rattle.rules.specs.Model.{Model, lastStep}
-use Rattle.rules.specs.State.{State, Slot, cellCount, slotAt}
+use Rattle.rules.specs.State.{State, cellCount, slotAt}
 use Rattle.rules.specs.Outcome.{Outcome, refused, accepted, insideCells}
 use Rattle.rules.specs.Steps.{illegalWrite, illegalUpdate}
-use Rattle.rules.specs.Step.{Call, row, insideSlots, stepOf, insideSteps, step}
+use Rattle.rules.specs.Step.{Call, row, insideSlots, stepOf, step}
 use Rattle.slot.proofs.Logic.{and-left, and-right}
 use Rattle.history.proofs.Cases.{Refusal, refuse-case, open-case, twilight-case}
 use Rattle.history.proofs.Move.{Move, Lawful, lawful}

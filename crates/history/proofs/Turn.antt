@@ -1,9 +1,9 @@
 -- A slot that turns without committing or publishing keeps the invariant, if what is new of it holds: ten of the moves are such turns.
-use mathlib.Core.Bool.{Bool, true, false}
-use mathlib.Core.List.{List, [], _∷_}
-use mathlib.Core.Logic.{_⊎_, inl, inr, ⊎-elim}
-use mathlib.Core.Path.{_≡_, refl, sym, _∙_, ap, subst}
-use Prim.Native.Nat.{ℕ, zero, suc, pred, _<_, _≤_}
+use mathlib.Core.Bool.{true, false}
+use mathlib.Core.List.{List}
+use mathlib.Core.Logic.{inl, inr, ⊎-elim}
+use mathlib.Core.Path.{_≡_, subst}
+use Prim.Native.Nat.{ℕ, pred, _<_, _≤_}
 use native.Mathlib.Omega.{arith}
 use lib.ListN.{length, getD}
 use Rattle.slot.specs.declared.ReadEntry.{ReadEntry}
@@ -12,11 +12,9 @@ use Rattle.rules.specs.declared.Cell.{Cell}
 use Rattle.slot.specs.Logic.{All}
 use Rattle.rules.specs.Model.{Model}
 use Rattle.rules.specs.State.{State, Slot, idle, opened, locking, twilight, publishing, cellCount, cellAt, slotAt, noCell, turn, commitOf}
-use Rattle.slot.specs.Logs.{writesCell}
 use Rattle.rules.specs.StateRight.{holds}
-use Rattle.history.specs.History.{upTo}
 use Rattle.history.proofs.Right.{Right}
-use Rattle.history.proofs.Invariant.{LateWrite, Owes, LogKnown, Settled, ReadsKnown, Inv, Stable, turned, turned-own, turned-other, All-map}
+use Rattle.history.proofs.Invariant.{LateWrite, Owes, LogKnown, Settled, ReadsKnown, Inv, Stable, turned, turned-other, All-map}
 
 -- what is known of entries stays so where what is settled does
 module _ (begun : ℕ → ℕ) (logs logs′ : ℕ → List WriteEntry) (S T : State) (stable : Stable begun logs S logs′ T) where

@@ -1,31 +1,25 @@
 -- The moves that neither commit nor publish are turns: what each of them has to show of its slot, and that its reads are known after it.
-use mathlib.Core.Bool.{Bool, true, false, not, cond, false≢true}
-use mathlib.Core.List.{List, [], _∷_, _++_, map}
-use mathlib.Core.Option.{Option, none, some}
-use mathlib.Core.Path.{_≡_, refl, sym, _∙_, ap, subst}
-use Prim.Native.Nat.{ℕ, zero, suc, pred, _<_, _≤_}
+use mathlib.Core.Bool.{Bool, true, false}
+use mathlib.Core.List.{List}
+use mathlib.Core.Path.{_≡_, refl, sym, _∙_, subst}
+use Prim.Native.Nat.{ℕ, suc, _<_}
 use native.Mathlib.Omega.{arith}
-use lib.Dec.{eqb, ltb, leb}
-use lib.ListN.{length, getD, set, length-set}
-use borrow.Author.Tests.{eqb-true, eqb-false, ltb-false, leb-true}
+use lib.Dec.{eqb}
+use lib.ListN.{length, getD, set}
+use borrow.Author.Tests.{eqb-true, eqb-false}
 use Rattle.slot.specs.declared.ReadEntry.{ReadEntry}
 use Rattle.slot.specs.declared.WriteEntry.{WriteEntry}
-use Rattle.slot.specs.Logs.{writeEntry, writesCell, putWrite}
+use Rattle.slot.specs.Logs.{writesCell}
 use Rattle.rules.specs.declared.Cell.{Cell}
-use Rattle.slot.specs.Logic.{_or_, All}
 use Rattle.rules.specs.Model.{Model}
-use Rattle.rules.specs.State.{State, Slot, idle, opened, locking, twilight, publishing, cellCount, cellAt, slotAt, noCell, turn, commitOf}
-use Rattle.rules.specs.Cells.{heldByOther, newer, withMark, reloaded, obstacle, takenBy, freed, freeAll}
+use Rattle.rules.specs.State.{State, Slot, twilight, cellCount, cellAt, slotAt, noCell, turn, commitOf}
+use Rattle.rules.specs.Cells.{heldByOther, takenBy, freed, freeAll}
 use Rattle.rules.specs.StateRight.{holds}
-use Rattle.history.specs.History.{upTo}
-use Rattle.history.proofs.Right.{Right}
-use Rattle.history.proofs.Keeps.Lists.{set-each, cond-elim, or-neither}
-use Rattle.history.proofs.Keeps.Logs.{put-same, found-there}
-use Rattle.history.proofs.Keeps.Kinds.{free-cell, kinds-free, freedFrom}
-use Rattle.history.proofs.Invariant.{LateWrite, Owes, LogKnown, Settled, ReadsKnown, Inv, Stable, turned, turned-own, turned-other, All-map}
-use Rattle.history.proofs.Replay.{quiet}
-use Rattle.history.proofs.Holders.{late-holds, owes-holds, others-free, stamp-past, no-later, cell-now}
-use Rattle.history.proofs.Turn.{Turn, turn-stable}
+use Rattle.history.proofs.Keeps.Lists.{set-each, cond-elim}
+use Rattle.history.proofs.Keeps.Kinds.{free-cell}
+use Rattle.history.proofs.Invariant.{LateWrite, Owes, LogKnown, Inv, turned}
+use Rattle.history.proofs.Holders.{late-holds, owes-holds, others-free, stamp-past}
+use Rattle.history.proofs.Turn.{Turn}
 
 module _ (begun : ℕ → ℕ) (M : Model) (logs : ℕ → List WriteEntry) (S : State) (inv : Inv begun M logs S) (i : ℕ) (inside : i < length (S .slots)) where
   -- the slot was not publishing

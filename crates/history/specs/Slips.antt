@@ -1,5 +1,5 @@
 -- The slips that look right, as steps that differ from document 01's in a row or two, and for each a history that shows it.
-use mathlib.Core.Bool.{Bool, false, not, cond}
+use mathlib.Core.Bool.{false, not, cond}
 use mathlib.Core.List.{List, [], _∷_, _++_, map}
 use Prim.Native.Nat.{ℕ, suc, pred}
 use lib.Dec.{eqb, ltb, leb}

@@ -1,23 +1,22 @@
 -- A packed state is well formed as an area exactly if it is as a state.
-use mathlib.Core.Bool.{Bool, true, false, not, cond}
-use mathlib.Core.List.{List, [], _∷_, _++_, map}
+use mathlib.Core.Bool.{Bool, true}
+use mathlib.Core.List.{map}
 use mathlib.Core.Path.{_≡_, refl, sym, _∙_, ap, ap₂}
-use Prim.Native.Nat.{ℕ, suc, _+_, _*_, _-_, _^_, _<_, _≤_}
+use Prim.Native.Nat.{ℕ, suc}
 use native.Mathlib.Omega.{arith}
-use lib.Dec.{eqb, ltb, leb}
+use lib.Dec.{eqb, leb}
 use lib.ListN.{length, getD, take, drop, List·getD-map}
 use borrow.Author.Tests.{eq-eqb, le-leb}
 use Rattle.slot.specs.declared.SlotRecord.{SlotRecord}
-use Rattle.slot.specs.Layout.{empty, slotOf, slotBytes}
+use Rattle.slot.specs.Layout.{empty}
 use Rattle.slot.specs.Logic.{_and_, same, every, all, pairwise}
 use Rattle.rules.specs.Model.{Model, lastStamp, areaLength}
-use Rattle.rules.specs.State.{State, Slot, idle, opened, locking, twilight, publishing, cellCount, slotAt, commitOf, noCell}
+use Rattle.rules.specs.State.{State, Slot, idle, opened, locking, twilight, publishing, slotAt, commitOf, noCell}
 use Rattle.slot.specs.Logs.{writesCell}
-use Rattle.rules.specs.LogsRight.{cellRight, stampsApart, holdersRight, cellCountRight}
+use Rattle.rules.specs.LogsRight.{stampsApart, holdersRight}
 use Rattle.rules.specs.StateRight.{slotRight, holds, shapeRight, stateRightButHolders, stateHoldersRight, stateRight}
-use Rattle.rules.specs.Layout.{lay, pack, versionIn, lengthIn, countIn, clockIn, slotPlace, cellsIn, recordsIn}
+use Rattle.rules.specs.Layout.{lay, pack, lengthIn, countIn, clockIn, slotPlace, cellsIn, recordsIn}
 use Rattle.rules.specs.AreaRight.{lengthsAgree, versionRight, slotPlaceRight, wellFormedButHolders, commitsApart, recordHolds, areaHoldersRight, wellFormed}
-use Rattle.rules.specs.declared.Cell.{Cell}
 use Rattle.slot.proofs.Logic.{and-intro, true-and, every-ext, all-every, pairwise-map}
 use Rattle.rules.proofs.LayView.{write-log}
 use Rattle.rules.proofs.SlotPlace.{slot-laid}

@@ -1,26 +1,23 @@
 -- A well-formed area loses nothing: the state read off it packs to the same bytes. Each part of the area is written back by its own round trip.
-use mathlib.Core.Bool.{Bool, true}
-use mathlib.Core.List.{List, [], _∷_, _++_, map, append-assoc}
-use mathlib.Core.Path.{_≡_, refl, sym, _∙_, ap, ap₂}
-use Prim.Native.Nat.{ℕ, suc, _+_, _*_, _^_, _<_, _≤_}
+use mathlib.Core.Bool.{true}
+use mathlib.Core.List.{List, [], _∷_, _++_, append-assoc}
+use mathlib.Core.Path.{_≡_, refl, sym, _∙_, ap}
+use Prim.Native.Nat.{ℕ, suc, _+_, _*_, _<_, _≤_}
 use native.Mathlib.Nat.{mul-suc, mul-le-mul-left}
 use native.Mathlib.Omega.{arith}
 use lib.ListN.{length, getD, take, drop, length-drop, length-map, List·getD-map}
 use lib.Seq.{take-add, take-length}
 use borrow.Author.Tests.{eqb-true}
-use Rattle.wire.specs.Field.{Bytes, be, toBe}
+use Rattle.wire.specs.Field.{Bytes, toBe}
 use Rattle.wire.specs.Table.{cat, tab}
 use Rattle.wire.proofs.Laws.Field.{toBe-be, be-bound, bytes-drop}
 use Rattle.wire.proofs.Laws.Table.{cat-ext, length-tab, getD-tab, cat-back-at}
-use Rattle.slot.specs.declared.SlotRecord.{SlotRecord}
-use Rattle.slot.specs.Layout.{empty, slotSize, slotOf, slotBytes}
+use Rattle.slot.specs.Layout.{empty, slotOf, slotBytes}
 use Rattle.slot.proofs.RoundTrip.{bytes-back, slot-fits}
-use Rattle.slot.specs.Logic.{_and_, every}
 use Rattle.rules.specs.Model.{Model, headerSize, cellSize, sizeOfSlot, cellOffset, slotOffset, areaLength}
-use Rattle.rules.specs.State.{State, Slot, idle, cellCount, cellAt, slotAt, noCell}
+use Rattle.rules.specs.State.{cellCount, cellAt, slotAt, noCell}
 use Rattle.rules.specs.Layout.{cellOf, cellBytes, lay, view, header, pack, versionIn, lengthIn, countIn, clockIn, slotPlace, cellsIn, recordsIn, stateOf}
 use Rattle.rules.specs.AreaRight.{lengthsAgree, versionRight, slotPlaceRight, wellFormedButHolders}
-use Rattle.rules.specs.declared.Cell.{Cell}
 use Rattle.slot.proofs.Logic.{and-left, and-right, every-at}
 use Rattle.rules.proofs.CellBytes.{cell-fits, cell-bytes-back}
 use Rattle.rules.proofs.SlotKept.{slot-kept}

@@ -1,10 +1,10 @@
 -- A cell and its bytes: round trips both ways, as those of a slot.
 use mathlib.Core.List.{List, [], _∷_, _++_, append-assoc}
-use mathlib.Core.Path.{_≡_, refl, sym, _∙_, ap}
+use mathlib.Core.Path.{_≡_, refl, _∙_, ap}
 use Prim.Native.Nat.{ℕ, _+_, _^_, _<_, _≤_}
 use native.Mathlib.Omega.{arith}
 use lib.ListN.{length, getD, take, drop, length-append, length-drop}
-use lib.Seq.{drop-at, take-add, drop-drop}
+use lib.Seq.{drop-at, take-add}
 use Rattle.wire.specs.Field.{Bytes, be, toBe}
 use Rattle.wire.proofs.Laws.Field.{length-toBe, be-toBe, toBe-be, be-bound, bytes-drop}
 use Rattle.rules.specs.Layout.{cellOf, cellBytes}

@@ -1,23 +1,21 @@
 -- A laid-out area is at rest, and is what `pack` gives of a fresh state: in a fresh state nothing is held and every slot is idle.
 use mathlib.Core.Bool.{Bool, true, false, cond}
-use mathlib.Core.List.{List, [], _∷_}
-use mathlib.Core.Path.{_≡_, refl, sym, _∙_, ap}
-use Prim.Native.Nat.{ℕ, zero, suc, _*_, _^_, _-_, _<_, _≤_}
+use mathlib.Core.List.{List}
+use mathlib.Core.Path.{_≡_, refl, ap}
+use Prim.Native.Nat.{ℕ, zero, suc, _*_, _^_, _<_}
 use native.Mathlib.Nat.{one-le-pow}
 use native.Mathlib.Omega.{arith}
 use lib.Dec.{eqb, leb}
 use lib.ListN.{length, getD, drop, replicate, length-replicate, getD-replicate}
 use borrow.Author.Tests.{eq-eqb, le-leb, ne-eqb}
 use Rattle.value.specs.Legal.{legalWord}
-use Rattle.wire.specs.Table.{tab}
 use Rattle.wire.proofs.Laws.Table.{length-tab, getD-tab}
 use Rattle.slot.specs.Logic.{_and_, _or_, same, every, all, pairwise}
 use Rattle.rules.specs.Model.{Model, lastStamp, FitsBytes}
-use Rattle.rules.specs.State.{State, Slot, idle, cellCount, slotAt, commitOf, noCell}
+use Rattle.rules.specs.State.{Slot, idle, commitOf, noCell}
 use Rattle.rules.specs.LogsRight.{cellRight, stampsApart, holdersRight, cellCountRight}
-use Rattle.rules.specs.StateRight.{slotRight, holds, shapeRight, stateRightButHolders, stateHoldersRight, stateRight, isIdle, stateAtRest}
-use Rattle.rules.specs.Layout.{pack, stateOf}
-use Rattle.rules.specs.AreaRight.{wellFormed}
+use Rattle.rules.specs.StateRight.{slotRight, holds, shapeRight, stateRightButHolders, stateHoldersRight, stateRight, isIdle}
+use Rattle.rules.specs.Layout.{pack}
 use Rattle.rules.specs.Area.{atRest, descriptionSize, describedCount, describedCell, describedCells, fresh, lengthsFit, LaidOut, layOut}
 use Rattle.rules.specs.RoundTrip.{LaysOut}
 use Rattle.rules.specs.declared.Cell.{Cell}

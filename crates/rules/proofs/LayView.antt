@@ -1,14 +1,10 @@
 -- A slot and its record: what `lay` pads, `view` cuts off again, and the other way round where what is past a count is zero.
-use mathlib.Core.Bool.{Bool, true, false, cond}
-use mathlib.Core.List.{List, [], _∷_, _++_}
+use mathlib.Core.Bool.{Bool, false}
 use mathlib.Core.Path.{_≡_, refl, sym, _∙_, ap, ap₂}
-use Prim.Native.Nat.{ℕ, _+_, _-_, _<_, _≤_}
+use Prim.Native.Nat.{ℕ, _-_, _<_, _≤_}
 use native.Mathlib.Omega.{arith}
-use lib.Dec.{eqb}
-use lib.ListN.{length, getD, take, drop, replicate, length-append, length-drop, length-replicate, getD-replicate, take-append-drop}
-use lib.Seq.{take-at, length-take-le, ext-getD, getD-drop}
-use Rattle.slot.specs.declared.ReadEntry.{ReadEntry}
-use Rattle.slot.specs.declared.WriteEntry.{WriteEntry}
+use lib.ListN.{length, getD, replicate}
+use lib.Seq.{take-at, length-take-le}
 use Rattle.slot.specs.declared.SlotRecord.{SlotRecord}
 use Rattle.slot.specs.Layout.{readCapacity, writeCapacity, noRead, noWrite}
 use Rattle.slot.proofs.Padding.{pad-back}

@@ -1,23 +1,20 @@
 -- Where the parts of a packed state stand: the header's fields, the cells and the records are read back from it.
-use mathlib.Core.Bool.{Bool, true}
 use mathlib.Core.List.{List, [], _∷_, _++_, map, append-assoc, append-nil}
 use mathlib.Core.Path.{_≡_, refl, sym, _∙_, ap, ap₂}
-use Prim.Native.Nat.{ℕ, _+_, _*_, _^_, _<_, _≤_}
+use Prim.Native.Nat.{ℕ, _+_, _*_, _^_, _<_}
 use native.Mathlib.Omega.{arith}
-use lib.ListN.{length, getD, take, drop, length-append, length-map, List·getD-map}
+use lib.ListN.{length, getD, drop, length-append, length-map, List·getD-map}
 use lib.Seq.{drop-at, drop-drop}
 use Rattle.wire.specs.Field.{be, toBe}
-use Rattle.wire.specs.Table.{cat, tab}
+use Rattle.wire.specs.Table.{cat}
 use Rattle.wire.proofs.Laws.Field.{length-toBe, be-toBe}
-use Rattle.wire.proofs.Laws.Table.{cat-ext, length-cat, drop-cat, tab-back-at, tab-ext}
-use Rattle.slot.specs.declared.SlotRecord.{SlotRecord}
-use Rattle.slot.specs.Layout.{empty, slotSize, slotOf, slotBytes}
+use Rattle.wire.proofs.Laws.Table.{cat-ext, length-cat, drop-cat, tab-back-at}
+use Rattle.slot.specs.Layout.{empty, slotOf, slotBytes}
 use Rattle.slot.specs.Fit.{Fitting}
 use Rattle.slot.proofs.RoundTrip.{length-slotBytes, slot-back}
-use Rattle.rules.specs.Model.{Model, headerSize, cellSize, sizeOfSlot, cellOffset, slotOffset, areaLength}
+use Rattle.rules.specs.Model.{Model, headerSize, cellSize, sizeOfSlot, areaLength}
 use Rattle.rules.specs.State.{State, Slot, idle, cellCount, cellAt, slotAt, noCell}
 use Rattle.rules.specs.Layout.{cellOf, cellBytes, lay, view, header, pack, versionIn, lengthIn, countIn, clockIn, slotPlace, cellsIn, recordsIn, stateOf}
-use Rattle.rules.specs.declared.Cell.{Cell}
 use Rattle.rules.proofs.CellBytes.{length-cellBytes, CellFits, cell-back}
 use Rattle.rules.proofs.LayView.{view-lay}
 

@@ -1,16 +1,16 @@
 -- Packing a well-formed state and unpacking it lose nothing either way, for every model whose numbers fit their bytes.
 use mathlib.Core.Bool.{Bool, true, false, cond}
-use mathlib.Core.List.{List, _++_}
-use mathlib.Core.Option.{Option, none, some}
-use mathlib.Core.Path.{_≡_, refl, sym, _∙_, ap, subst}
-use Prim.Native.Nat.{ℕ, _+_, _<_, _≤_}
+use mathlib.Core.List.{List}
+use mathlib.Core.Option.{none, some}
+use mathlib.Core.Path.{_≡_, refl, sym, _∙_, ap}
+use Prim.Native.Nat.{ℕ}
 use native.Mathlib.Omega.{arith}
-use Rattle.wire.specs.Field.{Bytes, toBe}
+use Rattle.wire.specs.Field.{Bytes}
 use Rattle.rules.specs.Model.{Model, FitsBytes}
 use Rattle.rules.specs.State.{State}
 use Rattle.rules.specs.StateRight.{stateRightButHolders, stateHoldersRight, stateRight}
 use Rattle.rules.specs.Layout.{pack, stateOf}
-use Rattle.rules.specs.AreaRight.{wellFormedButHolders, areaHoldersRight, wellFormed}
+use Rattle.rules.specs.AreaRight.{wellFormedButHolders, wellFormed}
 use Rattle.rules.specs.Area.{unpack}
 use Rattle.rules.specs.RoundTrip.{RoundTrip}
 use Rattle.slot.proofs.Logic.{and-left, and-right}

@@ -1,23 +1,21 @@
 -- Bytes that are right as a slot lose nothing: the record read off them is what the slot that it stands for lays down.
 use mathlib.Core.Bool.{Bool, true, false, not, cond, false≢true}
 use mathlib.Core.List.{List}
-use mathlib.Core.Path.{_≡_, refl, sym, _∙_, ap, subst}
+use mathlib.Core.Path.{_≡_, refl, sym, _∙_}
 use Prim.Native.Nat.{ℕ, zero, suc, _+_, _*_, _<_, _≤_}
 use native.Mathlib.Omega.{arith}
 use lib.Dec.{eqb, ltb, leb}
-use lib.ListN.{length, getD, drop}
+use lib.ListN.{getD, drop}
 use borrow.Author.Tests.{leb-true, eqb-true, le-ltb, ne-eqb}
 use Rattle.wire.specs.Field.{Bytes}
-use Rattle.wire.specs.Table.{tab}
 use Rattle.wire.proofs.Laws.Table.{getD-tab}
 use Rattle.slot.specs.declared.SlotRecord.{SlotRecord}
 use Rattle.slot.specs.Layout.{readCapacity, writeCapacity, noRead, noWrite, readOf, readSize, writeOf, writeSize, readsAt, writesAt, slotSize, empty, slotOf}
 use Rattle.slot.specs.Fit.{Fitting, Flagged}
 use Rattle.slot.proofs.RoundTrip.{slot-fits}
-use Rattle.slot.specs.Logic.{_and_, _or_, every}
+use Rattle.slot.specs.Logic.{_or_}
 use Rattle.rules.specs.Model.{Model}
-use Rattle.slot.specs.Logs.{someMarked, readLog, writeLog}
-use Rattle.rules.specs.LogsRight.{readsRight, writesRight}
+use Rattle.slot.specs.Logs.{someMarked, readLog}
 use Rattle.rules.specs.Layout.{lay, view}
 use Rattle.rules.specs.AreaRight.{zeros, countsRight, flagsRight, unusedZero, takenRight, commitRight, marksRight, ignoringRight, busyRight, slotPlaceRight}
 use Rattle.rules.specs.declared.Cell.{Cell}

@@ -1,27 +1,25 @@
 -- A slot's bytes are right exactly if the slot is: each clause about the record says what the clause about the slot says, and those about zeros and flags
 -- hold of any slot that was laid down.
-use mathlib.Core.Bool.{Bool, true, false, not, cond}
-use mathlib.Core.List.{List, [], _∷_, _++_}
-use mathlib.Core.Path.{_≡_, refl, sym, _∙_, ap, ap₂}
+use mathlib.Core.Bool.{Bool, true, false}
+use mathlib.Core.List.{List, _++_}
+use mathlib.Core.Path.{_≡_, refl, sym, _∙_, ap}
 use Prim.Native.Nat.{ℕ, _+_, _*_, _<_, _≤_}
 use native.Mathlib.Omega.{arith}
-use lib.Dec.{eqb, ltb, leb}
-use lib.ListN.{length, getD, take, drop, replicate}
-use lib.Seq.{getD-take, getD-drop, take-at, length-take-le}
+use lib.Dec.{ltb, leb}
+use lib.ListN.{getD, drop}
+use lib.Seq.{getD-take, getD-drop, take-at}
 use borrow.Author.Tests.{ltb-false}
 use Rattle.slot.specs.declared.SlotRecord.{SlotRecord}
 use Rattle.slot.specs.declared.ReadEntry.{ReadEntry}
 use Rattle.slot.specs.declared.WriteEntry.{WriteEntry}
-use Rattle.slot.specs.Layout.{readCapacity, writeCapacity, noRead, noWrite, bit, readBytes, readSize, writeBytes, writeSize, readsAt, writesAt, slotSize, empty, slotOf, slotBytes}
+use Rattle.slot.specs.Layout.{readCapacity, writeCapacity, noRead, noWrite, bit, readBytes, readSize, writeBytes, writeSize, readsAt, writesAt, slotSize, empty, slotBytes}
 use Rattle.slot.specs.Fit.{Fitting}
 use Rattle.slot.proofs.RoundTrip.{slot-back, ignoring-at, read-bytes-at, write-bytes-at, length-slotBytes}
 use Rattle.wire.specs.Field.{toBe}
 use Rattle.slot.specs.Logic.{_and_, _or_, every}
 use Rattle.slot.proofs.Padding.{padded-zero}
 use Rattle.rules.specs.Model.{Model}
-use Rattle.rules.specs.State.{Slot, idle, opened, locking, twilight, publishing, readsOf, writesOf}
-use Rattle.slot.specs.Logs.{someMarked, readLog, writeLog}
-use Rattle.rules.specs.LogsRight.{readsRight, writesRight, commitBetween}
+use Rattle.rules.specs.State.{Slot, idle, opened, locking, twilight, publishing}
 use Rattle.rules.specs.StateRight.{logsRight, slotRight}
 use Rattle.rules.specs.Layout.{layBusy, lay}
 use Rattle.rules.specs.AreaRight.{zeros, countsRight, flagsRight, unusedZero, takenRight, commitRight, marksRight, ignoringRight, busyRight, slotPlaceRight}

@@ -1,29 +1,25 @@
 -- A well-formed state's numbers fit their bytes: stamps are at most the clock, words are legal, and the rest is counted.
-use mathlib.Core.Bool.{Bool, true, false, not}
+use mathlib.Core.Bool.{Bool, true, false}
 use mathlib.Core.List.{List, [], _++_}
-use mathlib.Core.Path.{_≡_, refl, sym, _∙_, ap}
-use Prim.Native.Nat.{ℕ, _+_, _*_, _-_, _^_, _<_, _≤_}
+use mathlib.Core.Path.{_≡_, refl}
+use Prim.Native.Nat.{ℕ, _*_, _-_, _^_, _<_, _≤_}
 use native.Mathlib.Nat.{mul-le-mul-left, one-le-pow}
 use native.Mathlib.Omega.{arith}
-use lib.Dec.{eqb, ltb, leb}
+use lib.Dec.{ltb}
 use lib.ListN.{length, getD, replicate, List·getD-append}
 use borrow.Author.Tests.{leb-true, eqb-true, ltb-true, ltb-false}
-use Rattle.value.specs.Legal.{legalWord}
 use Rattle.value.proofs.RoundTrip.{legal-bound}
 use Rattle.slot.specs.declared.ReadEntry.{ReadEntry}
 use Rattle.slot.specs.declared.WriteEntry.{WriteEntry}
-use Rattle.slot.specs.Layout.{readCapacity, writeCapacity, noRead, noWrite, empty}
+use Rattle.slot.specs.Layout.{readCapacity, writeCapacity, noRead, noWrite}
 use Rattle.slot.specs.Fit.{Fitting}
-use Rattle.slot.specs.Logic.{_and_, all, pairwise}
 use Rattle.slot.proofs.Padding.{length-padded, padded-zero}
-use Rattle.rules.specs.Model.{Model, lastStamp, areaLength, cellSize, FitsBytes}
-use Rattle.rules.specs.State.{State, Slot, idle, opened, locking, twilight, publishing, cellCount, cellAt, slotAt, noCell, commitOf}
-use Rattle.rules.specs.LogsRight.{cellRight, loggedRight, readsRight, writesRight, stampsApart, commitBetween, cellCountRight}
+use Rattle.rules.specs.Model.{Model, lastStamp, cellSize, FitsBytes}
+use Rattle.rules.specs.State.{State, Slot, idle, opened, locking, twilight, publishing, cellCount, cellAt, slotAt, noCell}
+use Rattle.rules.specs.LogsRight.{cellRight, loggedRight, readsRight, writesRight, commitBetween, cellCountRight}
 use Rattle.rules.specs.StateRight.{logsRight, slotRight, shapeRight, stateRightButHolders}
 use Rattle.rules.specs.Layout.{layBusy, lay}
 use Rattle.rules.specs.declared.Cell.{Cell}
-use Rattle.slot.specs.Logs.{paddedReads, paddedWrites}
-use Rattle.rules.proofs.CellBytes.{CellFits}
 use Rattle.slot.proofs.Logic.{and-left, and-right, all-at}
 use Rattle.rules.proofs.Places.{Sized}
 

@@ -1,12 +1,12 @@
 -- Zero bytes: what an idle slot and an unused entry are made of, and what is read off them.
-use mathlib.Core.Bool.{Bool, true, false}
-use mathlib.Core.List.{List, [], _∷_, _++_}
-use mathlib.Core.Path.{_≡_, refl, sym, _∙_, ap, ap₂}
+use mathlib.Core.Bool.{true}
+use mathlib.Core.List.{List, _++_}
+use mathlib.Core.Path.{_≡_, refl, sym, _∙_, ap}
 use Prim.Native.Nat.{ℕ, zero, suc, _+_, _*_, _<_, _≤_}
 use native.Mathlib.Omega.{arith}
 use native.Mathlib.Numerals.{add-one}
 use lib.Dec.{eqb}
-use lib.ListN.{length, getD, take, drop, replicate, length-replicate, getD-replicate, replicate-append-replicate, List·getD-append}
+use lib.ListN.{getD, take, drop, replicate, getD-replicate, replicate-append-replicate}
 use lib.Seq.{getD-take, getD-drop}
 use borrow.Author.Tests.{eq-eqb, eqb-true}
 use Rattle.wire.specs.Field.{be, toBe}
@@ -14,7 +14,6 @@ use Rattle.wire.specs.Table.{cat, tab}
 use Rattle.wire.proofs.Laws.Field.{be-zero}
 use Rattle.wire.proofs.Laws.Table.{tab-ext}
 use Rattle.slot.specs.Layout.{readCapacity, writeCapacity, noRead, noWrite, readOf, readBytes, readSize, writeOf, writeBytes, writeSize, startAt, commitAt, readsAt, writesAt, slotSize, empty, slotOf, slotBytes}
-use Rattle.slot.specs.Logic.{every}
 use Rattle.rules.specs.AreaRight.{zeros}
 use Rattle.slot.proofs.Logic.{every-at, every-of}
 

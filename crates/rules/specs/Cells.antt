@@ -1,12 +1,11 @@
 -- The cells, and what they say of the logs' entries.
-use mathlib.Core.Bool.{Bool, true, false, not, cond}
-use mathlib.Core.List.{List, [], _∷_, map}
+use mathlib.Core.Bool.{Bool, false, not, cond}
+use mathlib.Core.List.{List, map}
 use mathlib.Core.Option.{Option}
 use Prim.Native.Nat.{ℕ, suc}
 use lib.Dec.{eqb, ltb}
 use Rattle.slot.specs.declared.ReadEntry.{ReadEntry}
-use Rattle.slot.specs.declared.WriteEntry.{WriteEntry}
-use Rattle.slot.specs.Logic.{_and_, _or_, any, first}
+use Rattle.slot.specs.Logic.{_and_, _or_, first}
 use Rattle.rules.specs.State.{State, cellAt}
 use Rattle.rules.specs.declared.Cell.{Cell}
 

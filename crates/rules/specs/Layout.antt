@@ -1,9 +1,9 @@
 -- The area as bytes, big-endian throughout: version, length, n, clock; the cells; the slots. `pack` lays a state down, `stateOf` reads one off any bytes.
-use mathlib.Core.Bool.{Bool, true, false, cond}
-use mathlib.Core.List.{List, [], _∷_, _++_, map}
-use Prim.Native.Nat.{ℕ, _-_}
+use mathlib.Core.Bool.{Bool, false, cond}
+use mathlib.Core.List.{List, _∷_, _++_, map}
+use Prim.Native.Nat.{ℕ}
 use lib.Dec.{eqb}
-use lib.ListN.{length, getD, take, drop, replicate}
+use lib.ListN.{length, getD, drop}
 use Rattle.wire.specs.Field.{be, toBe}
 use Rattle.wire.specs.Table.{cat, tab}
 use Rattle.slot.specs.declared.ReadEntry.{ReadEntry}

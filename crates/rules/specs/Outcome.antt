@@ -4,7 +4,7 @@ use mathlib.Core.Bool.{Bool, cond, not}
 use mathlib.Core.List.{List}
 use mathlib.Core.Option.{Option, none, some}
 use Prim.Native.Nat.{ℕ}
-use lib.Dec.{eqb, ltb, leb}
+use lib.Dec.{eqb, leb}
 use Rattle.value.specs.declared.CellValue.{CellValue}
 use Rattle.value.specs.Legal.{legalWord}
 use Rattle.value.specs.Value.{kindOf, wordOf}

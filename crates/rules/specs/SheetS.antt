@@ -1,7 +1,6 @@
 -- Sheet S: its cells, its 21 steps, and what it prints.
 use mathlib.Core.List.{List, [], _∷_}
 use mathlib.Core.Path.{_≡_}
-use Prim.Native.Nat.{ℕ}
 use lib.ListN.{replicate}
 use Rattle.rules.specs.Model.{controller}
 use Rattle.rules.specs.State.{State, idle}

@@ -5,7 +5,7 @@ use Prim.Native.Nat.{ℕ, suc}
 use lib.Dec.{ltb, leb}
 use lib.ListN.{length, getD, set}
 use Rattle.value.specs.declared.CellValue.{CellValue}
-use Rattle.value.specs.Value.{kindOf, wordOf, valueOf}
+use Rattle.value.specs.Value.{wordOf, valueOf}
 use Rattle.call.specs.declared.Reply.{Reply}
 use Rattle.call.specs.declared.Reply.the-variants.{Done, Verdict, Value, NotAllowed, IllegalValue, LogFull, ReadHeld, ReadNewer, LockHeld, ReloadHeld, Aborted}
 use Rattle.slot.specs.declared.ReadEntry.{ReadEntry}
