@@ -106,11 +106,9 @@ impl Sheet {
     /// The binary form.
     pub fn encode(&self) -> Vec<u8> {
         let mut out = vec![1];
-        push_length(&mut out, self.cells.len() * DESCRIPTION_LENGTH);
-        for cell in &self.cells {
-            out.push(cell.kind().number());
-            out.extend(cell.word().to_be_bytes());
-        }
+        let descriptions = describe(&self.cells);
+        push_length(&mut out, descriptions.len());
+        out.extend(descriptions);
         push_length(&mut out, self.calls.len() * CALL_LENGTH);
         for call in &self.calls {
             out.extend([call.step, call.slot, call.cell, call.kind]);
@@ -129,6 +127,16 @@ fn counted<'a>(reader: &mut Reader<'a>) -> Option<&'a [u8]> {
 /// The numbers of cells and steps in a good sheet are such that it fits.
 fn push_length(out: &mut Vec<u8>, length: usize) {
     out.extend((length as u16).to_be_bytes());
+}
+
+/// The descriptions of 5 bytes of these values: kind and word.
+pub fn describe(values: &[Value]) -> Vec<u8> {
+    let mut out = Vec::new();
+    for value in values {
+        out.push(value.kind().number());
+        out.extend(value.word().to_be_bytes());
+    }
+    out
 }
 
 /// The values that descriptions of 5 bytes each describe, if all are legal.

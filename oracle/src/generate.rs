@@ -95,9 +95,16 @@ impl Random {
         let slot = self.between(1, u64::from(habit.slots)) as u8;
         let own = machine.slot(slot);
         let step = self.likely_step(own, habit.patience);
-        let mut call = Call { step: step.number(), slot, ..junk };
+        self.with_likely_arguments(machine, Call { step: step.number(), slot, ..junk })
+    }
+
+    /// The call with arguments that most often suit its step and its slot.
+    pub fn with_likely_arguments(&mut self, machine: &Machine, mut call: Call) -> Call {
+        let Some(step) = Step::numbered(call.step) else {
+            return call;
+        };
         if step.uses_cell() && !self.one_in(30) {
-            call.cell = self.likely_cell(machine, own, step);
+            call.cell = self.likely_cell(machine, machine.slot(call.slot), step);
         }
         if step.uses_value() && !self.one_in(10) {
             let cell = machine.cells().get(usize::from(call.cell));
@@ -105,6 +112,18 @@ impl Random {
             (call.kind, call.word) = (value.kind().number(), value.word());
         }
         call
+    }
+
+    /// A machine that random steps from a fresh one have led to.
+    pub fn reached(&mut self) -> Option<Machine> {
+        let n = self.cell_count();
+        let mut machine = Machine::fresh(&self.values(n))?;
+        let habit = self.habit();
+        for _ in 0..self.between(20, 120) {
+            let call = self.likely_call(&machine, habit);
+            machine.step(call);
+        }
+        Some(machine)
     }
 
     /// A well-formed machine, also such a one as no steps lead to.

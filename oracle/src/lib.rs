@@ -9,6 +9,8 @@
 //! - [`Machine::pack`] and [`Machine::unpack`] go to and from the area's bytes.
 //! - [`step_on_bytes`] and [`lay_out_on_bytes`] are the two functions that a
 //!   C runtime calls.
+//! - [`step_in_place`] makes the same step on the bytes themselves, as a
+//!   yardstick of time, and [`fuzz`] compares a library with this one.
 //! - [`Sheet`] is a step sheet, with a binary form and a [`text`] form, and
 //!   [`run`] makes its output.
 
@@ -18,7 +20,9 @@
 pub mod area;
 pub mod binary;
 pub mod call;
+pub mod fuzz;
 pub mod generate;
+pub mod inplace;
 pub mod machine;
 pub mod random;
 pub mod run;
@@ -31,8 +35,9 @@ mod record;
 mod steps;
 
 pub use area::{area_length, lay_out_on_bytes, step_on_bytes};
-pub use binary::{BadSheet, Sheet};
+pub use binary::{describe, BadSheet, Sheet};
 pub use call::{Call, Refusal, Reply, Step};
+pub use inplace::step_in_place;
 pub use machine::{Cell, Commit, Machine, Phase, Read, Transaction, Write};
 pub use random::Random;
 pub use text::TextError;

@@ -7,13 +7,18 @@
 use crate::bytes::Reader;
 use crate::machine::{Transaction, SLOTS};
 
-const HEADER_LENGTH: usize = 14;
-const CELL_LENGTH: usize = 14;
-const SLOT_LENGTH: usize = 197;
+pub(crate) const HEADER_LENGTH: usize = 14;
+pub(crate) const CELL_LENGTH: usize = 14;
+pub(crate) const SLOT_LENGTH: usize = 197;
 
 /// The length of the area of n cells: 1,590 + 14 × n.
 pub(crate) fn length_for(n: usize) -> usize {
     HEADER_LENGTH + CELL_LENGTH * n + SLOT_LENGTH * SLOTS
+}
+
+/// How many cells there is room for in an area of this length.
+pub(crate) fn cells_in(length: usize) -> usize {
+    length.saturating_sub(length_for(0)) / CELL_LENGTH
 }
 
 pub(crate) struct AreaRecord {

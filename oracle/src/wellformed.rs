@@ -12,7 +12,9 @@ type Sentence = (&'static str, fn(&AreaRecord) -> bool);
 
 const LENGTHS_AGREE: &str = "the lent length, the length field and the formula agree";
 
-const SENTENCES: [Sentence; 21] = [
+pub(crate) const SENTENCE_COUNT: usize = 21;
+
+const SENTENCES: [Sentence; SENTENCE_COUNT] = [
     (LENGTHS_AGREE, lengths_agree),
     ("version 1", version_1),
     ("n from 1 to 64", n_from_1_to_64),

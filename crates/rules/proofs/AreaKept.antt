@@ -24,7 +24,7 @@ use Rattle.rules.proofs.SlotKept.{slot-kept}
 use Rattle.rules.proofs.Places.{Sized}
 
 -- record c of n ends before the last one does
-within : (size c n : ℕ) → c < n → size * c + size ≤ size * n
+pub within : (size c n : ℕ) → c < n → size * c + size ≤ size * n
 within size c n h =
     let more : size * suc c ≤ size * n = mul-le-mul-left size h in
     let same : size * suc c ≡ size * c + size = mul-suc size c in

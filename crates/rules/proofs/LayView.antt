@@ -8,9 +8,9 @@ use lib.Seq.{take-at, length-take-le}
 use Rattle.slot.specs.declared.SlotRecord.{SlotRecord}
 use Rattle.slot.specs.Layout.{readCapacity, writeCapacity, noRead, noWrite}
 use Rattle.slot.proofs.Padding.{pad-back}
-use Rattle.slot.specs.Logs.{paddedReads, paddedWrites, readLog, writeLog}
+use Rattle.slot.specs.Logs.{paddedReads, paddedWrites, readLog, writeLog, busyRecord}
 use Rattle.rules.specs.State.{Slot, idle, opened, locking, twilight, publishing, readsOf, writesOf}
-use Rattle.rules.specs.Layout.{layBusy, lay, view}
+use Rattle.rules.specs.Layout.{lay, view}
 
 -- the logs of a slot's record are the slot's
 pub read-log : (x : Slot) → readLog (lay x) ≡ readsOf x
@@ -47,7 +47,7 @@ module _ (v : SlotRecord)
     (writesZero : (i : ℕ) → v .writecount ≤ i → i < writeCapacity → getD (v .writes) i noWrite ≡ noWrite) where
   lay-parts : (phase : ℕ) (ignoring : Bool) (taken commit : ℕ)
       → phase ≡ v .phase → ignoring ≡ v .ignoring → taken ≡ v .taken → commit ≡ v .commit
-      → layBusy phase ignoring taken (v .start) commit (readLog v) (writeLog v) ≡ v
+      → busyRecord phase ignoring taken (v .start) commit (readLog v) (writeLog v) ≡ v
   lay-parts phase ignoring taken commit p f t c =
       let readcount : length (readLog v) ≡ v .readcount = length-take-le (v .readcount) (v .reads) (omega arith) in
       let writecount : length (writeLog v) ≡ v .writecount = length-take-le (v .writecount) (v .writes) (omega arith) in

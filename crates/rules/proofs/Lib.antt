@@ -14,3 +14,5 @@ pub mod RoundTrip
 pub mod PackBytes
 pub mod LaidOut
 pub mod Controller
+pub mod AreaRead
+pub mod Stores

@@ -14,6 +14,7 @@ use Rattle.wire.proofs.Laws.Field.{bytes-cons, bytes-append, toBe-bytes}
 use Rattle.wire.proofs.Laws.Table.{bytes-cat}
 use Rattle.slot.specs.declared.ReadEntry.{ReadEntry}
 use Rattle.slot.specs.declared.WriteEntry.{WriteEntry}
+use Rattle.slot.specs.Logs.{busyRecord}
 use Rattle.slot.specs.Layout.{readCapacity, writeCapacity, noRead, noWrite, slotBytes}
 use Rattle.slot.specs.Fit.{Bytewise}
 use Rattle.slot.proofs.RoundTrip.{slot-bytes}
@@ -22,7 +23,7 @@ use Rattle.rules.specs.Model.{Model, areaLength, FitsBytes}
 use Rattle.rules.specs.State.{State, Slot, idle, opened, locking, twilight, publishing, cellCount, cellAt, slotAt, noCell}
 use Rattle.rules.specs.LogsRight.{cellRight, loggedRight, readsRight, writesRight, cellCountRight, holdersRight}
 use Rattle.rules.specs.StateRight.{slotRight, holds, shapeRight, stateRightButHolders, stateHoldersRight}
-use Rattle.rules.specs.Layout.{cellBytes, layBusy, lay, header, pack}
+use Rattle.rules.specs.Layout.{cellBytes, lay, header, pack}
 use Rattle.rules.specs.declared.Cell.{Cell}
 use Rattle.slot.proofs.Logic.{and-left, and-right, every-at, all-at}
 use Rattle.rules.proofs.StateSized.{padded-each, LogsHold, logs-hold, state-sized}
@@ -38,7 +39,7 @@ cell-is-bytes M fits clock x p holder =
 
 module _ (cells : List Cell) (clock : ℕ) (few : length cells < 256) where
   busy-is-bytewise : (phase : ℕ) (ignoring : Bool) (taken start commit : ℕ) (reads : List ReadEntry) (writes : List WriteEntry)
-      → LogsHold cells clock start reads writes → phase < 256 → taken ≤ length writes → Bytewise (layBusy phase ignoring taken start commit reads writes)
+      → LogsHold cells clock start reads writes → phase < 256 → taken ≤ length writes → Bytewise (busyRecord phase ignoring taken start commit reads writes)
   unfolding readsRight writesRight loggedRight
   busy-is-bytewise phase ignoring taken start commit reads writes logs p t =
       let reading = logs .readsFew in

@@ -27,17 +27,18 @@ pub record Sized (M : Model) (S : State) : Type 0 where
   pub slotsFit : (s : ℕ) → s < M .slots → Fitting (M .stampBytes) (lay (slotAt S s))
 
 module _ (M : Model) (S : State) where
-  cellPart : List ℕ
+  -- the cells' bytes, and the slots'
+  unfoldable pub cellPart : List ℕ
   cellPart = cat (cellCount S) (λ c. cellBytes (M .stampBytes) (cellAt S c))
 
-  slotPart : List ℕ
+  unfoldable pub slotPart : List ℕ
   slotPart = cat (M .slots) (λ s. slotBytes (M .stampBytes) (lay (slotAt S s)))
 
-  length-header : length (header M S) ≡ headerSize M
+  pub length-header : length (header M S) ≡ headerSize M
   unfolding header
   length-header = simp (length-append, length-toBe) (omega arith)
 
-  length-cells : length cellPart ≡ cellSize M * cellCount S
+  pub length-cells : length cellPart ≡ cellSize M * cellCount S
   unfolding cellPart
   length-cells =
       length-cat (cellSize M) (cellCount S) (λ c. cellBytes (M .stampBytes) (cellAt S c)) (λ c h. length-cellBytes (M .stampBytes) (cellAt S c))
@@ -52,7 +53,7 @@ module _ (M : Model) (S : State) where
   unfolding pack cellPart slotPart
   length-pack = simp (length-append, length-header, length-cells, length-slots)
 
-  from-cells : drop (headerSize M) (pack M S) ≡ cellPart ++ slotPart
+  pub from-cells : drop (headerSize M) (pack M S) ≡ cellPart ++ slotPart
   unfolding pack cellPart slotPart
   from-cells =
       ap (drop (headerSize M)) (append-assoc (header M S) cellPart slotPart)

@@ -12,6 +12,7 @@ use borrow.Author.Tests.{ltb-false}
 use Rattle.slot.specs.declared.SlotRecord.{SlotRecord}
 use Rattle.slot.specs.declared.ReadEntry.{ReadEntry}
 use Rattle.slot.specs.declared.WriteEntry.{WriteEntry}
+use Rattle.slot.specs.Logs.{busyRecord}
 use Rattle.slot.specs.Layout.{readCapacity, writeCapacity, noRead, noWrite, bit, readBytes, readSize, writeBytes, writeSize, readsAt, writesAt, slotSize, empty, slotBytes}
 use Rattle.slot.specs.Fit.{Fitting}
 use Rattle.slot.proofs.RoundTrip.{slot-back, ignoring-at, read-bytes-at, write-bytes-at, length-slotBytes}
@@ -21,7 +22,7 @@ use Rattle.slot.proofs.Padding.{padded-zero}
 use Rattle.rules.specs.Model.{Model}
 use Rattle.rules.specs.State.{Slot, idle, opened, locking, twilight, publishing}
 use Rattle.rules.specs.StateRight.{logsRight, slotRight}
-use Rattle.rules.specs.Layout.{layBusy, lay}
+use Rattle.rules.specs.Layout.{lay}
 use Rattle.rules.specs.AreaRight.{zeros, countsRight, flagsRight, unusedZero, takenRight, commitRight, marksRight, ignoringRight, busyRight, slotPlaceRight}
 use Rattle.rules.specs.declared.Cell.{Cell}
 use Rattle.slot.proofs.Logic.{and-assoc, and-true, true-and, true-or, false-or, or-when, and-intro, every-of}
@@ -81,12 +82,12 @@ module _ (w : ℕ) (v : SlotRecord) (rest : List ℕ) where
 module _ (M : Model) (cells : List Cell) (clock : ℕ) (rest : List ℕ) where
   -- of a record that was laid down, in any phase: what is left to say once the logs are right
   busy-laid : (phase : ℕ) (ignoring : Bool) (taken start commit : ℕ) (reads : List ReadEntry) (writes : List WriteEntry)
-      → let v = layBusy phase ignoring taken start commit reads writes in
+      → let v = busyRecord phase ignoring taken start commit reads writes in
       busyRight M cells clock (slotBytes (M .stampBytes) v ++ rest) v
       ≡ (logsRight cells clock start reads writes and takenRight v and commitRight clock v and marksRight v and ignoringRight v)
   unfolding busyRight countsRight logsRight
   busy-laid phase ignoring taken start commit reads writes =
-      let v = layBusy phase ignoring taken start commit reads writes in
+      let v = busyRecord phase ignoring taken start commit reads writes in
       let unused : unusedZero (M .stampBytes) (slotBytes (M .stampBytes) v ++ rest) v ≡ true =
       unused-laid (M .stampBytes) v rest (padded-zero noRead reads readCapacity) (padded-zero noWrite writes writeCapacity) in
       rw (flags-laid (M .stampBytes) v rest, unused, read-log (opened start reads writes), write-log (opened start reads writes))

@@ -11,6 +11,7 @@ use borrow.Author.Tests.{leb-true, eqb-true, ltb-true, ltb-false}
 use Rattle.value.proofs.RoundTrip.{legal-bound}
 use Rattle.slot.specs.declared.ReadEntry.{ReadEntry}
 use Rattle.slot.specs.declared.WriteEntry.{WriteEntry}
+use Rattle.slot.specs.Logs.{busyRecord}
 use Rattle.slot.specs.Layout.{readCapacity, writeCapacity, noRead, noWrite}
 use Rattle.slot.specs.Fit.{Fitting}
 use Rattle.slot.proofs.Padding.{length-padded, padded-zero}
@@ -18,7 +19,7 @@ use Rattle.rules.specs.Model.{Model, lastStamp, cellSize, FitsBytes}
 use Rattle.rules.specs.State.{State, Slot, idle, opened, locking, twilight, publishing, cellCount, cellAt, slotAt, noCell}
 use Rattle.rules.specs.LogsRight.{cellRight, loggedRight, readsRight, writesRight, commitBetween, cellCountRight}
 use Rattle.rules.specs.StateRight.{logsRight, slotRight, shapeRight, stateRightButHolders}
-use Rattle.rules.specs.Layout.{layBusy, lay}
+use Rattle.rules.specs.Layout.{lay}
 use Rattle.rules.specs.declared.Cell.{Cell}
 use Rattle.slot.proofs.Logic.{and-left, and-right, all-at}
 use Rattle.rules.proofs.Places.{Sized}
@@ -58,7 +59,7 @@ logs-hold cells clock start reads writes p =
 module _ (w : ℕ) (cells : List Cell) (clock : ℕ) (clockFits : clock < 256 ^ w) where
   -- a record with right logs and a commit stamp at most the clock fits
   busy-fits : (phase : ℕ) (ignoring : Bool) (taken start commit : ℕ) (reads : List ReadEntry) (writes : List WriteEntry)
-      → LogsHold cells clock start reads writes → commit ≤ clock → Fitting w (layBusy phase ignoring taken start commit reads writes)
+      → LogsHold cells clock start reads writes → commit ≤ clock → Fitting w (busyRecord phase ignoring taken start commit reads writes)
   unfolding readsRight writesRight loggedRight
   busy-fits phase ignoring taken start commit reads writes logs c =
       let started = logs .startHolds in

@@ -1,16 +1,14 @@
 -- The area as bytes, big-endian throughout: version, length, n, clock; the cells; the slots. `pack` lays a state down, `stateOf` reads one off any bytes.
-use mathlib.Core.Bool.{Bool, false, cond}
+use mathlib.Core.Bool.{false, cond}
 use mathlib.Core.List.{List, _∷_, _++_, map}
 use Prim.Native.Nat.{ℕ}
 use lib.Dec.{eqb}
-use lib.ListN.{length, getD, drop}
+use lib.ListN.{getD, drop}
 use Rattle.wire.specs.Field.{be, toBe}
 use Rattle.wire.specs.Table.{cat, tab}
-use Rattle.slot.specs.declared.ReadEntry.{ReadEntry}
-use Rattle.slot.specs.declared.WriteEntry.{WriteEntry}
 use Rattle.slot.specs.declared.SlotRecord.{SlotRecord}
 use Rattle.slot.specs.Layout.{empty, slotOf, slotBytes}
-use Rattle.slot.specs.Logs.{readLog, writeLog, paddedReads, paddedWrites}
+use Rattle.slot.specs.Logs.{readLog, writeLog, busyRecord}
 use Rattle.rules.specs.Model.{Model, cellOffset, slotOffset, areaLength}
 use Rattle.rules.specs.State.{State, Slot, idle, opened, locking, twilight, publishing, cellCount, cellAt, slotAt}
 use Rattle.rules.specs.declared.Cell.{Cell}
@@ -23,26 +21,12 @@ unfoldable pub cellBytes : ℕ → Cell → List ℕ
 cellBytes width x = (x .kind ∷ x .holder ∷ toBe 4 (x .word)) ++ toBe width (x .stamp)
 
 -- a slot's record, whole: what its phase does not keep is zero
-abbrev pub layBusy : ℕ → Bool → ℕ → ℕ → ℕ → List ReadEntry → List WriteEntry → SlotRecord
-layBusy phase ignoring taken start commit reads writes =
-    record {
-      phase = phase;
-      ignoring = ignoring;
-      taken = taken;
-      readcount = length reads;
-      writecount = length writes;
-      start = start;
-      commit = commit;
-      reads = paddedReads reads;
-      writes = paddedWrites writes;
-    }
-
 abbrev pub lay : Slot → SlotRecord
 lay idle = empty
-lay (opened start reads writes) = layBusy 1 false 0 start 0 reads writes
-lay (locking taken start reads writes) = layBusy 2 false taken start 0 reads writes
-lay (twilight ignoring start commit reads writes) = layBusy 3 ignoring 0 start commit reads writes
-lay (publishing ignoring taken start commit reads writes) = layBusy 4 ignoring taken start commit reads writes
+lay (opened start reads writes) = busyRecord 1 false 0 start 0 reads writes
+lay (locking taken start reads writes) = busyRecord 2 false taken start 0 reads writes
+lay (twilight ignoring start commit reads writes) = busyRecord 3 ignoring 0 start commit reads writes
+lay (publishing ignoring taken start commit reads writes) = busyRecord 4 ignoring taken start commit reads writes
 
 -- the slot that a record stands for
 unfoldable pub view : SlotRecord → Slot

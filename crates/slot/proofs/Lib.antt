@@ -4,3 +4,5 @@ pub mod Unique
 pub mod Logic
 pub mod Search
 pub mod Padding
+pub mod Insert
+pub mod Laws

@@ -1,10 +1,10 @@
 -- A log in an array: padded with zero entries, and cut off again.
-use mathlib.Core.List.{List, _++_}
-use mathlib.Core.Path.{_≡_, sym, _∙_}
-use Prim.Native.Nat.{ℕ, _+_, _-_, _<_, _≤_}
+use mathlib.Core.List.{List, [], _∷_, _++_}
+use mathlib.Core.Path.{_≡_, sym, ap, _∙_}
+use Prim.Native.Nat.{ℕ, suc, _+_, _-_, _<_, _≤_}
 use native.Mathlib.Omega.{arith}
-use lib.ListN.{length, getD, take, drop, replicate, length-append, length-drop, length-replicate, getD-replicate, take-append-drop}
-use lib.Seq.{length-take-le, ext-getD, getD-drop, getD-append-add}
+use lib.ListN.{length, getD, take, drop, set, replicate, length-append, length-drop, length-set, length-replicate, getD-replicate, take-append-drop}
+use lib.Seq.{length-take-le, ext-getD, getD-drop, getD-append-add, drop-append-add, set-append-left, set-append-seam, append-snoc}
 
 module _ {A : Type 0} (d : A) where
   -- a padded log has all of its entries
@@ -29,3 +29,21 @@ module _ {A : Type 0} (d : A) where
       let below : i < n - k = rw length-replicate at b in
       getD-replicate (n - k) i d d below ∙ sym (getD-drop k l i d ∙ zero (k + i) (omega arith) (omega arith))) in
       rw (cut, zeros) (take-append-drop k l)
+
+  -- an entry replaced in the log is replaced in the array
+  pub padded-set : (l : List A) (n i : ℕ) (e : A) → i < length l → set (l ++ replicate (n - length l) d) i e ≡ set l i e ++ replicate (n - length (set l i e)) d
+  padded-set l n i e h = rw (length-set l i e) (set-append-left l (replicate (n - length l) d) i e h)
+
+  -- the entry after the log's last one takes the place of the first unused entry
+  pub padded-next : (l : List A) (n : ℕ) (e : A) → length l < n
+      → set (l ++ replicate (n - length l) d) (length l) e ≡ (l ++ (e ∷ [])) ++ replicate (n - length (l ++ (e ∷ []))) d
+  padded-next l n e h =
+      let one-less : n - length l ≡ suc (n - length (l ++ (e ∷ []))) = rw length-append (omega arith) in
+      rw one-less
+      (set-append-seam l d (replicate (n - length (l ++ (e ∷ []))) d) e ∙ sym (append-snoc l e (replicate (n - length (l ++ (e ∷ []))) d)))
+
+  -- what is left of the unused entries, with one more in use
+  pub padded-drop : (l : List A) (n : ℕ) → length l < n → drop (length l + 1) (l ++ replicate (n - length l) d) ≡ replicate (n - suc (length l)) d
+  padded-drop l n h =
+      let one-less : n - length l ≡ suc (n - suc (length l)) = omega arith in
+      drop-append-add l (replicate (n - length l) d) 1 ∙ ap (λ (k : ℕ). drop 1 (replicate k d)) one-less

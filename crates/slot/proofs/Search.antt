@@ -1,10 +1,14 @@
--- A search and a test over a list agree: the first element that passes is there exactly if some element passes.
+-- A search and a test over a list agree: the first element that passes is there exactly if some element passes. A search goes from place to place: as long
+-- as no element has passed, the whole list and what is left of it have the same first element that passes.
 use mathlib.Core.Bool.{Bool, true, false, cond, false≢true}
 use mathlib.Core.List.{List, [], _∷_}
 use mathlib.Core.Option.{Option, none, some}
-use mathlib.Core.Path.{_≡_, refl, sym}
-use Prim.Native.Nat.{ℕ}
+use mathlib.Core.Path.{_≡_, refl, sym, _∙_}
+use Prim.Native.Nat.{ℕ, suc, _+_, _<_, _≤_}
+use native.Mathlib.Numerals.{add-one}
 use native.Mathlib.Omega.{arith}
+use lib.ListN.{length, getD, take, drop, length-take, drop-of-length-le}
+use lib.Seq.{drop-cons, getD-take}
 use Rattle.slot.specs.Logic.{_or_, any, first}
 
 -- one element in front: by its test, and by what is known of the rest
@@ -49,3 +53,23 @@ module _ {A : Type 0} (f : A → Bool) where
   unfolding first
   found-passes [] y p = let z : _≡_ {A = ℕ} 0 1 = cc in absurd (omega arith)
   found-passes (x ∷ l) y p = front-passes x f (f x) (first f l) y refl (found-passes l y) p
+
+-- a search through the first n elements of an array, at place i
+module _ {A : Type 0} (f : A → Bool) (d : A) (array : List A) (n i : ℕ) (from : first f (take n array) ≡ first f (drop i (take n array))) where
+  search-here : i < n → i < length array
+      → first f (take n array) ≡ cond (f (getD array i d)) (some (getD array i d)) (first f (drop (suc i) (take n array)))
+  unfolding first
+  search-here h k =
+      let place : drop i (take n array) ≡ getD array i d ∷ drop (suc i) (take n array) =
+      drop-cons (take n array) i d (rw length-take (omega arith)) ∙ rw (getD-take n array i d h) in
+      from ∙ rw place
+
+  pub search-next : i < n → i < length array → f (getD array i d) ≡ false → first f (take n array) ≡ first f (drop (i + 1) (take n array))
+  search-next h k q = search-here h k ∙ rw (q, add-one)
+
+  pub search-found : i < n → i < length array → f (getD array i d) ≡ true → first f (take n array) ≡ some (getD array i d)
+  search-found h k q = search-here h k ∙ rw q
+
+  pub search-end : length (take n array) ≤ i → first f (take n array) ≡ none
+  unfolding first
+  search-end h = from ∙ rw (drop-of-length-le (take n array) h)

@@ -1,4 +1,5 @@
 -- Each public function's contract leaves one answer: it says that the answer, or the slice at exit, is one value.
+use mathlib.Core.Bool.{Bool}
 use mathlib.Core.Path.{_≡_}
 use mathlib.Core.List.{List}
 use Prim.Native.Nat.{ℕ}
@@ -6,6 +7,25 @@ use lib.ListN.{drop}
 use Rattle.wire.specs.Part.{splice}
 use Rattle.wire.proofs.Unique.{unique}
 use Rattle.slot.specs.Layout.{empty, slotOf, slotBytes}
+use Rattle.slot.specs.Logs.{readLog, writeLog, readEntry, writeEntry, someMarked}
+use Rattle.slot.specs.Operations.{
+  readFound,
+  writeFound,
+  begun,
+  joined,
+  written,
+  closed,
+  lockedOne,
+  entered,
+  reloadedWith,
+  ignoringSet,
+  finished,
+  publishedOne,
+}
+use Rattle.slot.specs.declared.ReadEntry.{ReadEntry}
+use Rattle.slot.specs.declared.WriteEntry.{WriteEntry}
+use Rattle.slot.specs.declared.ReadFound.{ReadFound}
+use Rattle.slot.specs.declared.WriteFound.{WriteFound}
 use Rattle.slot.specs.declared.SlotRecord.{SlotRecord}
 
 pub empty-unique : (r₁ r₂ : SlotRecord) → r₁ ≡ empty → r₂ ≡ empty → r₁ ≡ r₂
@@ -17,3 +37,44 @@ unpack-unique s at width r₁ r₂ = unique
 pub pack-unique : (v : SlotRecord) (s : List ℕ) (at width : ℕ) (s₁ s₂ : List ℕ)
     → s₁ ≡ splice s at (slotBytes width v) → s₂ ≡ splice s at (slotBytes width v) → s₁ ≡ s₂
 pack-unique v s at width s₁ s₂ = unique
+
+pub begun-unique : (start : ℕ) (r₁ r₂ : SlotRecord) → r₁ ≡ begun start → r₂ ≡ begun start → r₁ ≡ r₂
+begun-unique start r₁ r₂ = unique
+
+pub joined-unique : (v : SlotRecord) (e : ReadEntry) (r₁ r₂ : SlotRecord) → r₁ ≡ joined v e → r₂ ≡ joined v e → r₁ ≡ r₂
+joined-unique v e r₁ r₂ = unique
+
+pub written-unique : (v : SlotRecord) (e : WriteEntry) (r₁ r₂ : SlotRecord) → r₁ ≡ written v e → r₂ ≡ written v e → r₁ ≡ r₂
+written-unique v e r₁ r₂ = unique
+
+pub closed-unique : (v : SlotRecord) (r₁ r₂ : SlotRecord) → r₁ ≡ closed v → r₂ ≡ closed v → r₁ ≡ r₂
+closed-unique v r₁ r₂ = unique
+
+pub locked-one-unique : (v : SlotRecord) (r₁ r₂ : SlotRecord) → r₁ ≡ lockedOne v → r₂ ≡ lockedOne v → r₁ ≡ r₂
+locked-one-unique v r₁ r₂ = unique
+
+pub entered-unique : (v : SlotRecord) (reads : List ReadEntry) (commit : ℕ) (r₁ r₂ : SlotRecord) → r₁ ≡ entered v reads commit → r₂ ≡ entered v reads commit → r₁ ≡ r₂
+entered-unique v reads commit r₁ r₂ = unique
+
+pub reloaded-unique : (v : SlotRecord) (reads : List ReadEntry) (commit : ℕ) (r₁ r₂ : SlotRecord) → r₁ ≡ reloadedWith v reads commit → r₂ ≡ reloadedWith v reads commit → r₁ ≡ r₂
+reloaded-unique v reads commit r₁ r₂ = unique
+
+pub ignoring-set-unique : (v : SlotRecord) (r₁ r₂ : SlotRecord) → r₁ ≡ ignoringSet v → r₂ ≡ ignoringSet v → r₁ ≡ r₂
+ignoring-set-unique v r₁ r₂ = unique
+
+pub finished-unique : (v : SlotRecord) (r₁ r₂ : SlotRecord) → r₁ ≡ finished v → r₂ ≡ finished v → r₁ ≡ r₂
+finished-unique v r₁ r₂ = unique
+
+pub published-one-unique : (v : SlotRecord) (r₁ r₂ : SlotRecord) → r₁ ≡ publishedOne v → r₂ ≡ publishedOne v → r₁ ≡ r₂
+published-one-unique v r₁ r₂ = unique
+
+pub find-read-unique : (v : SlotRecord) (cell : ℕ) (r₁ r₂ : ReadFound)
+    → r₁ ≡ readFound (readEntry (readLog v) cell) → r₂ ≡ readFound (readEntry (readLog v) cell) → r₁ ≡ r₂
+find-read-unique v cell r₁ r₂ = unique
+
+pub find-write-unique : (v : SlotRecord) (cell : ℕ) (r₁ r₂ : WriteFound)
+    → r₁ ≡ writeFound (writeEntry (writeLog v) cell) → r₂ ≡ writeFound (writeEntry (writeLog v) cell) → r₁ ≡ r₂
+find-write-unique v cell r₁ r₂ = unique
+
+pub some-marked-unique : (v : SlotRecord) (r₁ r₂ : Bool) → r₁ ≡ someMarked (readLog v) → r₂ ≡ someMarked (readLog v) → r₁ ≡ r₂
+some-marked-unique v r₁ r₂ = unique

@@ -2,3 +2,4 @@ pub mod Logic
 pub mod Layout
 pub mod Fit
 pub mod Logs
+pub mod Operations

@@ -54,3 +54,18 @@ readLog v = take (v .readcount) (v .reads)
 
 abbrev pub writeLog : SlotRecord → List WriteEntry
 writeLog v = take (v .writecount) (v .writes)
+
+-- a busy slot's record, whole, from its logs
+abbrev pub busyRecord : ℕ → Bool → ℕ → ℕ → ℕ → List ReadEntry → List WriteEntry → SlotRecord
+busyRecord phase ignoring taken start commit reads writes =
+    record {
+      phase = phase;
+      ignoring = ignoring;
+      taken = taken;
+      readcount = length reads;
+      writecount = length writes;
+      start = start;
+      commit = commit;
+      reads = paddedReads reads;
+      writes = paddedWrites writes;
+    }

@@ -25,6 +25,8 @@ ghost use Rattle.slot.specs.Layout.{
   empty,
 };
 
+mod operations;
+
 // A read entry: its cell, whether it is marked, and the word read.
 pub struct ReadEntry {
     pub cell: u8,
@@ -46,6 +48,18 @@ pub struct WriteEntry {
 impl WriteEntry {
     // Its bytes: cell (1), word (4).
     pub const SIZE: usize = 5;
+}
+
+// What a search of the read log finds.
+pub enum ReadFound {
+    Entry(ReadEntry),
+    Nothing,
+}
+
+// What a search of the write log finds.
+pub enum WriteFound {
+    Entry(WriteEntry),
+    Nothing,
 }
 
 // What the area keeps of a slot. Entries from a log's count on are zero.

@@ -1,7 +1,7 @@
 //! A machine and an area side by side. Every call is made on both, they must
 //! agree, and what holds of every call is checked of every call.
 
-use oracle::{lay_out_on_bytes, step_on_bytes, text, Call, Machine, Value};
+use oracle::{describe, lay_out_on_bytes, step_on_bytes, text, Call, Machine, Value};
 
 use crate::peek::{self, Peek};
 
@@ -29,11 +29,7 @@ pub struct Bench {
 impl Bench {
     /// A fresh area with these cells.
     pub fn fresh(cells: &[Value]) -> Bench {
-        let mut descriptions = Vec::new();
-        for cell in cells {
-            descriptions.push(cell.kind().number());
-            descriptions.extend(cell.word().to_be_bytes());
-        }
+        let descriptions = describe(cells);
         let mut bytes = vec![0xee; 1590 + 14 * cells.len()];
         assert_eq!(lay_out_on_bytes(&mut bytes, &descriptions), 0);
         let bench = Bench::of(bytes);

@@ -15,18 +15,6 @@ struct Tally {
     broken: BTreeMap<&'static str, u64>,
 }
 
-/// An area after some random steps.
-fn reached(random: &mut Random) -> Vec<u8> {
-    let n = random.cell_count();
-    let mut bench = Bench::fresh(&random.values(n));
-    let habit = random.habit();
-    for _ in 0..random.between(20, 120) {
-        let call = random.likely_call(&bench.machine, habit);
-        bench.machine.step(call);
-    }
-    bench.machine.pack()
-}
-
 /// Puts another byte in one place, checks, and puts the right one back.
 fn damage(area: &mut [u8], place: usize, byte: u8, tally: &mut Tally) {
     let right = std::mem::replace(&mut area[place], byte);
@@ -74,7 +62,8 @@ fn reached_areas_damaged_one_byte_at_a_time() {
     let mut tally = Tally::default();
     for seed in 0..50 {
         let mut random = Random::new(seed);
-        let mut area = reached(&mut random);
+        let machine = random.reached().expect("a machine");
+        let mut area = machine.pack();
         damage_everywhere(&mut area, &mut random, &mut tally);
     }
     check(&tally);

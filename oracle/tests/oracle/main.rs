@@ -5,6 +5,8 @@ mod bench;
 mod damage;
 mod edges;
 mod effects;
+mod fuzzing;
+mod header;
 mod layout;
 mod ledger;
 mod peek;

@@ -1,0 +1,99 @@
+-- The read log of a slot of a good area: it has at most 16 entries, each of a cell of the area, since the slot's logs are right.
+use mathlib.Core.Bool.{true}
+use mathlib.Core.List.{List, map}
+use mathlib.Core.Path.{_≡_, refl, sym, ap, _∙_}
+use Prim.Native.Nat.{ℕ, _-_, _≤_, _<_}
+use native.Mathlib.Omega.{arith}
+use lib.ListN.{length, getD, take, drop, replicate, length-map, List·getD-append}
+use lib.Seq.{length-take-le, drop-at}
+use borrow.Author.Tests.{ltb-true}
+use Rattle.slot.specs.declared.ReadEntry.{ReadEntry}
+use Rattle.slot.specs.declared.SlotRecord.{SlotRecord}
+use Rattle.slot.specs.Layout.{noRead}
+use Rattle.slot.specs.Logs.{paddedReads}
+use Rattle.slot.proofs.Logic.{and-left, and-right, all-at}
+use Rattle.slot.proofs.Padding.{length-padded}
+use Rattle.rules.specs.Model.{controller}
+use Rattle.rules.specs.State.{Slot, idle, opened, locking, twilight, publishing, readsOf, slotAt}
+use Rattle.rules.specs.LogsRight.{loggedRight, readsRight}
+use Rattle.rules.specs.StateRight.{slotRight, stateRightButHolders}
+use Rattle.rules.specs.Layout.{lay}
+use Rattle.rules.specs.declared.Cell.{Cell}
+use Rattle.rules.proofs.LayView.{read-log}
+use Rattle.rules.proofs.StateSized.{LogsHold, logs-hold}
+use Rattle.rules.proofs.RoundTrip.{state-right, state-but-holders}
+use Rattle.rules.proofs.AreaRead.{count-read, slots-read}
+use Rattle.area.specs.Good.{Good, stateIn}
+use Rattle.area.specs.Reload.{Logged}
+use Rattle.area.proofs.Sweep.{sweep}
+
+-- all entries of a padded log changed: those past the count are zero as before
+pub swept-log : (f : ReadEntry → ReadEntry) (l : List ReadEntry) (n : ℕ) → length l ≡ 16 → n ≤ 16 → l ≡ paddedReads (take n l)
+    → sweep f noRead l n ≡ paddedReads (map f (take n l))
+swept-log f l n whole most padded =
+    let count : length (take n l) ≡ n = length-take-le n l (omega arith) in
+    let rest : drop n l ≡ replicate (16 - length (take n l)) noRead =
+    ap (drop n) padded ∙ drop-at (take n l) (replicate (16 - length (take n l)) noRead) n count in
+    rw (rest, length-map)
+
+-- a slot's record has its read log, padded
+reads-laid : (x : Slot) → lay x .reads ≡ paddedReads (readsOf x)
+reads-laid idle = refl
+reads-laid (opened start reads writes) = refl
+reads-laid (locking taken start reads writes) = refl
+reads-laid (twilight ignoring start commit reads writes) = refl
+reads-laid (publishing ignoring taken start commit reads writes) = refl
+
+count-laid : (x : Slot) → lay x .readcount ≡ length (readsOf x)
+count-laid idle = refl
+count-laid (opened start reads writes) = refl
+count-laid (locking taken start reads writes) = refl
+count-laid (twilight ignoring start commit reads writes) = refl
+count-laid (publishing ignoring taken start commit reads writes) = refl
+
+module _ (cells : List Cell) (clock : ℕ) where
+  -- at most 16 reads, each of a cell
+  record ReadsHold (reads : List ReadEntry) : Type 0 where
+    most : length reads ≤ 16
+    inside : (k : ℕ) → k < length reads → getD reads k noRead .cell < length cells
+
+  from-logs : {start : ℕ} {reads : List ReadEntry} {writes : List _} → LogsHold cells clock start reads writes → ReadsHold reads
+  unfolding readsRight loggedRight
+  from-logs {reads = reads} logs =
+      record {
+        most = logs .readsFew;
+        inside = λ k h. ltb-true _ _ (and-left _ _ (all-at (λ (e : ReadEntry). loggedRight cells (e .cell) (e .word)) reads noRead (and-left _ _ (logs .readsHold)) k h));
+      }
+
+  reads-hold : (x : Slot) → slotRight cells clock x ≡ true → ReadsHold (readsOf x)
+  unfolding slotRight
+  reads-hold idle p = record { most = omega arith; inside = λ k h. absurd (omega arith) }
+  reads-hold (opened start reads writes) p = from-logs (logs-hold cells clock start reads writes (and-left _ _ p))
+  reads-hold (locking taken start reads writes) p = from-logs (logs-hold cells clock start reads writes (and-left _ _ p))
+  reads-hold (twilight ignoring start commit reads writes) p = from-logs (logs-hold cells clock start reads writes (and-left _ _ p))
+  reads-hold (publishing ignoring taken start commit reads writes) p = from-logs (logs-hold cells clock start reads writes (and-left _ _ p))
+
+-- each slot of a good area is right
+slot-holds : (l : List ℕ) → Good l → (i : ℕ) → i < 8 → slotRight (stateIn l .cells) (stateIn l .clock) (slotAt (stateIn l) i) ≡ true
+unfolding stateRightButHolders
+slot-holds l good i h =
+    let right = state-but-holders controller (stateIn l) (state-right controller l (good .bytes) (good .right)) in
+    all-at (slotRight (stateIn l .cells) (stateIn l .clock)) (stateIn l .slots) idle (and-left _ _ (and-right _ _ (and-right _ _ (and-right _ _ right)))) i
+    (rw (slots-read controller l) h)
+
+-- the record of a slot whose reads hold
+logged-laid : (l : List ℕ) (x : Slot) → ReadsHold (stateIn l .cells) (stateIn l .clock) (readsOf x) → Logged l (lay x)
+logged-laid l x holds =
+    record {
+      whole = ap length (reads-laid x) ∙ length-padded noRead (readsOf x) 16 (holds .most);
+      most = rw (count-laid x) (holds .most);
+      inside = λ k b.
+          let below : k < length (readsOf x) = rw (count-laid x) at b in
+          rw (reads-laid x, List·getD-append (readsOf x) (replicate (16 - length (readsOf x)) noRead) noRead k below, ← count-read controller l) (holds .inside k below);
+      padded = reads-laid x ∙ ap paddedReads (sym (read-log x));
+    }
+
+-- what `slot_at` gives of a good area
+pub logged-of : (l : List ℕ) → Good l → (i : ℕ) → i < 8 → (v : SlotRecord) → v ≡ lay (slotAt (stateIn l) i) → Logged l v
+logged-of l good i h v e =
+    rw e (logged-laid l (slotAt (stateIn l) i) (reads-hold (stateIn l .cells) (stateIn l .clock) (slotAt (stateIn l) i) (slot-holds l good i h)))

@@ -1,0 +1,4 @@
+pub mod Good
+pub mod Stores
+pub mod Reload
+pub mod Laid

@@ -1,0 +1,109 @@
+-- Demands 1 and 2: the contracts give one answer, and the theorems about the rules say what it is.
+use mathlib.Core.Bool.{Bool, true, false, cond}
+use mathlib.Core.List.{List}
+use mathlib.Core.Path.{_≡_, refl, _∙_, ap}
+use Prim.Native.Nat.{ℕ, _/_, _%_, _^_, _<_, _≤_}
+use native.Mathlib.Omega.{arith}
+use lib.Dec.{lit<}
+use Rattle.value.specs.Legal.{legalWord}
+use Rattle.wire.proofs.Unique.{unique}
+use Rattle.slot.specs.Logic.{all}
+use Rattle.rules.specs.declared.Cell.{Cell}
+use Rattle.call.specs.declared.Reply.the-variants.{NotWellFormed}
+use Rattle.call.specs.Answer.{replyCode, replyKind, replyWord, replyNumber}
+use Rattle.call.proofs.Answer.{refusal-bare, number-splits}
+use Rattle.rules.specs.Model.{controller}
+use Rattle.rules.specs.State.{State}
+use Rattle.rules.specs.StateRight.{stateRight}
+use Rattle.rules.specs.Outcome.{Outcome, refused, accepted, replyOf, after}
+use Rattle.rules.specs.Step.{Call, step}
+use Rattle.rules.specs.Layout.{pack, stateOf}
+use Rattle.rules.specs.AreaRight.{wellFormed}
+use Rattle.rules.specs.Area as area
+use Rattle.rules.specs.Area.{Answered, answered, stepOnBytes, describedCells, fresh, lengthsFit, layOut}
+use Rattle.rules.proofs.Controller.{controller-fits}
+use Rattle.rules.proofs.RoundTrip.{pack-right, state-back}
+use Rattle.history.proofs.Keeps.{keeps}
+use Rattle.crocktendril.specs.Contract.{Stepped, LaidOut}
+use Rattle.crocktendril.specs.Demands.{Demand1, Demand2}
+use Rattle.crocktendril.proofs.Words.{step-word}
+
+abbrev laid : ℕ → List ℕ → area.LaidOut
+laid code bytes = record { code = code; bytes = bytes }
+
+-- the reply on bytes has a word of 32 bits
+answered-word : (l : List ℕ) (o : Outcome) → replyWord (replyOf o) < 2 ^ 32 → replyWord (answered controller l o .reply) < 2 ^ 32
+answered-word l (refused r) h = h
+answered-word l (accepted r S) h = h
+
+reply-word : (l : List ℕ) (call : Call) → replyWord (stepOnBytes controller l call .reply) < 2 ^ 32
+unfolding stepOnBytes
+reply-word l call =
+    by (wellFormed controller l) (answered controller l (step controller (stateOf controller l) call)) (record { reply = NotWellFormed; bytes = l })
+    (answered-word l (step controller (stateOf controller l) call) (step-word controller (stateOf controller l) call)) (lit< tt)
+  where
+    by : (b : Bool) (x y : Answered) → replyWord (x .reply) < 2 ^ 32 → replyWord (y .reply) < 2 ^ 32 → replyWord (cond b x y .reply) < 2 ^ 32
+    by true x y p q = p
+    by false x y p q = q
+
+splits : (l : List ℕ) (call : Call)
+    → (replyNumber (stepOnBytes controller l call .reply) / 2 ^ 40 ≡ replyCode (stepOnBytes controller l call .reply))
+    × (replyNumber (stepOnBytes controller l call .reply) / 2 ^ 32 % 2 ^ 8 ≡ replyKind (stepOnBytes controller l call .reply))
+    × (replyNumber (stepOnBytes controller l call .reply) % 2 ^ 32 ≡ replyWord (stepOnBytes controller l call .reply))
+splits l call = number-splits (stepOnBytes controller l call .reply) (reply-word l call)
+
+refuses : (l : List ℕ) (call : Call) (r : ℕ) (l′ : List ℕ) → Stepped l call r l′ → 1 ≤ r / 2 ^ 40 → r / 2 ^ 40 ≤ 12
+    → (r / 2 ^ 32 % 256 ≡ 0) × (r % 2 ^ 32 ≡ 0) × (l′ ≡ l)
+refuses l call r l′ s low high =
+    let parts = splits l call in
+    let code : r / 2 ^ 40 ≡ replyCode (stepOnBytes controller l call .reply) = rw (s .answer) (parts .0) in
+    let bare = refusal-bare (stepOnBytes controller l call .reply) (omega arith) in (
+      rw (s .answer) (parts .1 ∙ bare .0),
+      rw (s .answer) (parts .2 ∙ bare .1),
+      s .bytes ∙ keeps controller controller-fits .untouched l call (omega arith) (omega arith),
+    )
+
+-- a lay-out that is refused writes nothing
+refused-lay-out : (fit legal : Bool) (x : List ℕ) (l : List ℕ)
+    → 1 ≤ cond fit (cond legal (laid 0 x) (laid 6 l)) (laid 1 l) .code → cond fit (cond legal (laid 0 x) (laid 6 l)) (laid 1 l) .bytes ≡ l
+refused-lay-out true true x l h = absurd (omega arith)
+refused-lay-out true false x l h = refl
+refused-lay-out false legal x l h = refl
+
+pub demand1 : Demand1
+unfolding layOut
+demand1 =
+    record {
+      stepDefinite = λ l call r₁ r₂ l₁ l₂ s t. (unique (s .answer) (t .answer), unique (s .bytes) (t .bytes));
+      layOutDefinite = λ l ds r₁ r₂ l₁ l₂ s t. (unique (s .answer) (t .answer), unique (s .bytes) (t .bytes));
+      code = λ l call r l′ s. rw (s .answer) (splits l call .0);
+      kind = λ l call r l′ s. rw (s .answer) (splits l call .1);
+      word = λ l call r l′ s. rw (s .answer) (splits l call .2);
+      refusal = refuses;
+      layOutRefusal = λ l ds r l′ s h. s .bytes ∙ refused-lay-out (lengthsFit controller l ds) (all (λ (x : Cell). legalWord (x .kind) (x .word)) (describedCells ds))
+          (pack controller (fresh controller (describedCells ds))) l (rw (s .answer) at h);
+    }
+
+-- on the area of a well-formed state
+packed-reply : (l : List ℕ) (o : Outcome) → answered controller l o .reply ≡ replyOf o
+packed-reply l (refused r) = refl
+packed-reply l (accepted r T) = refl
+
+packed-bytes : (S : State) (o : Outcome) → answered controller (pack controller S) o .bytes ≡ pack controller (after S o)
+packed-bytes S (refused r) = refl
+packed-bytes S (accepted r T) = refl
+
+on-packed : (S : State) (call : Call) → stateRight controller S ≡ true
+    → stepOnBytes controller (pack controller S) call ≡ answered controller (pack controller S) (step controller S call)
+unfolding stepOnBytes
+on-packed S call right = rw (pack-right controller controller-fits S right, state-back controller controller-fits S right)
+
+pub demand2 : Demand2
+demand2 =
+    record {
+      stepExact = λ S call r l′ right s.
+          let here = on-packed S call right in (
+            s .answer ∙ ap (λ (x : Answered). replyNumber (x .reply)) here ∙ ap replyNumber (packed-reply (pack controller S) (step controller S call)),
+            s .bytes ∙ ap (λ (x : Answered). x .bytes) here ∙ packed-bytes S (step controller S call),
+          );
+    }

@@ -1,0 +1,32 @@
+-- Demands 1 and 2 of the two functions, as statements about what their contracts allow.
+use mathlib.Core.Bool.{true}
+use mathlib.Core.List.{List}
+use mathlib.Core.Path.{_≡_}
+use Prim.Native.Nat.{ℕ, _/_, _%_, _^_, _≤_}
+use Rattle.call.specs.Answer.{replyCode, replyKind, replyWord, replyNumber}
+use Rattle.rules.specs.Model.{controller}
+use Rattle.rules.specs.State.{State}
+use Rattle.rules.specs.StateRight.{stateRight}
+use Rattle.rules.specs.Outcome.{replyOf, after}
+use Rattle.rules.specs.Step.{Call, step}
+use Rattle.rules.specs.Layout.{pack}
+use Rattle.rules.specs.Area.{stepOnBytes}
+use Rattle.crocktendril.specs.Contract.{Stepped, LaidOut}
+
+-- "Arbitrary area contents and arguments get a definite reply."
+pub record Demand1 : Type 0 where
+  pub stepDefinite : (l : List ℕ) (call : Call) (r₁ r₂ : ℕ) (l₁ l₂ : List ℕ) → Stepped l call r₁ l₁ → Stepped l call r₂ l₂ → (r₁ ≡ r₂) × (l₁ ≡ l₂)
+  pub layOutDefinite : (l ds : List ℕ) (r₁ r₂ : ℕ) (l₁ l₂ : List ℕ) → LaidOut l ds r₁ l₁ → LaidOut l ds r₂ l₂ → (r₁ ≡ r₂) × (l₁ ≡ l₂)
+  -- the code, the kind and the word come back from the number
+  pub code : (l : List ℕ) (call : Call) (r : ℕ) (l′ : List ℕ) → Stepped l call r l′ → r / 2 ^ 40 ≡ replyCode (stepOnBytes controller l call .reply)
+  pub kind : (l : List ℕ) (call : Call) (r : ℕ) (l′ : List ℕ) → Stepped l call r l′ → r / 2 ^ 32 % 256 ≡ replyKind (stepOnBytes controller l call .reply)
+  pub word : (l : List ℕ) (call : Call) (r : ℕ) (l′ : List ℕ) → Stepped l call r l′ → r % 2 ^ 32 ≡ replyWord (stepOnBytes controller l call .reply)
+  -- "A refused call gives its listed code with kind and word zero and changes no byte."
+  pub refusal : (l : List ℕ) (call : Call) (r : ℕ) (l′ : List ℕ) → Stepped l call r l′ → 1 ≤ r / 2 ^ 40 → r / 2 ^ 40 ≤ 12
+      → (r / 2 ^ 32 % 256 ≡ 0) × (r % 2 ^ 32 ≡ 0) × (l′ ≡ l)
+  pub layOutRefusal : (l ds : List ℕ) (r : ℕ) (l′ : List ℕ) → LaidOut l ds r l′ → 1 ≤ r → l′ ≡ l
+
+-- "Every step does exactly what document 01 says. Packing a well-formed state and unpacking it lose nothing either way."
+pub record Demand2 : Type 0 where
+  pub stepExact : (S : State) (call : Call) (r : ℕ) (l′ : List ℕ) → stateRight controller S ≡ true → Stepped (pack controller S) call r l′
+      → (r ≡ replyNumber (replyOf (step controller S call))) × (l′ ≡ pack controller (after S (step controller S call)))

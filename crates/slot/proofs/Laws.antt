@@ -1,0 +1,2 @@
+-- The laws of the operations, for those who call them.
+pub mod Operations

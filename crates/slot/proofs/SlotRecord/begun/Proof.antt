@@ -1,0 +1,13 @@
+-- `begun` meets its contract: an empty log is all unused entries, so the empty record but for phase and start is the record of empty logs.
+use borrow.Author.Needs.{needs}
+use Rattle.slot.proofs.SlotRecord.begun.Statement.{statement}
+use Rattle.slot.proofs.SlotRecord.begun.Tie as tie
+
+empty-requires : tie.Need-empty-requires
+empty-requires c κs = search needs
+
+returns : tie.Need-returns
+returns c = rw (c .empty .ensures)
+
+pub begun-spec : {M : Type 1} → statement M
+begun-spec = tie.close (tie.spec empty-requires returns)

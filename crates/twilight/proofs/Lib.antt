@@ -1,0 +1,2 @@
+pub mod OpeningLaws
+pub mod ZoneLaws

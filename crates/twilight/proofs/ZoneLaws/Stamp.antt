@@ -1,0 +1,84 @@
+-- The ways out of enter and of reload, the two steps that take a stamp, in the terms of the code: at the record's phase a step's row is the chain of its tests, and each
+-- test passed picks a side.
+use mathlib.Core.Bool.{false, not}
+use mathlib.Core.List.{List, map}
+use mathlib.Core.Option.{none}
+use mathlib.Core.Path.{_≡_, sym, _∙_}
+use Prim.Native.Nat.{ℕ, suc, _+_, _<_, _≤_}
+use native.Mathlib.Numerals.{add-one}
+use lib.Dec.{ltb}
+use borrow.Author.Tests.{lt-ltb, le-ltb, eq-eqb, ne-eqb}
+use Rattle.call.specs.declared.Reply.the-variants.{Done, Verdict, NotAllowed, ReloadHeld, LastStamp}
+use Rattle.slot.specs.declared.ReadEntry.{ReadEntry}
+use Rattle.slot.specs.declared.SlotRecord.{SlotRecord}
+use Rattle.slot.specs.Logs.{readLog, writeLog, paddedReads, someMarked}
+use Rattle.slot.specs.Operations.{entered, reloadedWith}
+use Rattle.rules.specs.Model.{Model, lastStamp}
+use Rattle.rules.specs.State.{State, twilight, slotAt, turn}
+use Rattle.rules.specs.Cells.{withMark, reloaded, obstacle}
+use Rattle.rules.specs.Layout.{lay, view}
+use Rattle.rules.specs.Outcome.{refused, accepted, refuseIf, belowLastStamp}
+use Rattle.rules.specs.Steps.{enter, reload}
+use Rattle.area.specs.declared.Obstacle.{Obstacle}
+use Rattle.area.specs.declared.Obstacle.the-variants.{Held, Clear}
+use Rattle.area.specs.Reload.{obstacleOf}
+use Rattle.twilight.proofs.ZoneLaws.Found.{held-refused, clear-none}
+use Rattle.twilight.proofs.ZoneLaws.Phase.{write-count, is-locking, is-twilight, not-locking, not-twilight}
+use Rattle.twilight.proofs.ZoneLaws.Record.{Stands, entered-stands, reloaded-stands}
+
+-- slot i's record is v, and the clock stands at k
+module _ (M : Model) (S : State) (i : ℕ) {v : SlotRecord} (here : v ≡ lay (slotAt S i)) where
+  pub enter-4 : (v .phase ≡ 2 → ⊥) → enter M S i ≡ refused NotAllowed
+  unfolding enter
+  enter-4 n = not-locking (slotAt S i) v here n _
+
+  pub reload-4 : (v .phase ≡ 3 → ⊥) → reload M S i ≡ refused NotAllowed
+  unfolding reload
+  reload-4 n = not-twilight (slotAt S i) v here n _
+
+  module _ (p : v .phase ≡ 2) where
+    at-locking : enter M S i ≡ refuseIf (ltb (v .taken) (v .writecount)) NotAllowed
+        (belowLastStamp M S
+        (accepted (Verdict (not (someMarked (map (withMark S i (v .start)) (readLog v)))))
+        (turn S i (suc (S .clock)) (S .cells) (twilight false (v .start) (suc (S .clock)) (map (withMark S i (v .start)) (readLog v)) (writeLog v)))))
+    unfolding enter
+    at-locking = rw (is-locking (slotAt S i) v here p, write-count (slotAt S i) v here)
+
+    -- some cell is missing
+    pub enter-missing : v .taken < v .writecount → enter M S i ≡ refused NotAllowed
+    enter-missing m = at-locking ∙ rw (lt-ltb (v .taken) (v .writecount) m)
+
+    module _ (taken : v .writecount ≤ v .taken) {k : ℕ} (clock : k ≡ S .clock) where
+      pub enter-12 : k ≡ lastStamp M → enter M S i ≡ refused LastStamp
+      enter-12 last = at-locking ∙ rw (le-ltb (v .taken) (v .writecount) taken, eq-eqb (S .clock) (lastStamp M) (sym clock ∙ last))
+
+      module _ {w : SlotRecord} {reads : List ReadEntry} (made : w ≡ entered v reads (k + 1)) (marked : reads ≡ paddedReads (map (withMark S i (v .start)) (readLog v))) where
+        pub enter-stands : Stands w (twilight false (v .start) (suc (S .clock)) (map (withMark S i (v .start)) (readLog v)) (writeLog v))
+        enter-stands = rw (made, marked, clock, add-one (S .clock)) (entered-stands (slotAt S i) v here p (withMark S i (v .start)) (suc (S .clock)))
+
+        pub enter-0 : (k ≡ lastStamp M → ⊥) → enter M S i ≡ accepted (Verdict (not (someMarked (readLog w)))) (turn S i (k + 1) (S .cells) (view w))
+        enter-0 more =
+            at-locking
+            ∙ rw (le-ltb (v .taken) (v .writecount) taken, ne-eqb (S .clock) (lastStamp M) (λ e. more (clock ∙ e)), enter-stands .viewed, enter-stands .reads, clock, add-one (S .clock))
+
+  module _ (p : v .phase ≡ 3) {o : Obstacle} (sought : o ≡ obstacleOf S (obstacle S i (readLog v))) where
+    pub reload-11 : {cell holder : ℕ} → o ≡ Held cell holder → reload M S i ≡ refused (ReloadHeld cell holder)
+    unfolding reload
+    reload-11 told = rw (is-twilight (slotAt S i) v here p) (held-refused S (obstacle S i (readLog v)) (sym sought ∙ told) _)
+
+    module _ (told : o ≡ Clear) {k : ℕ} (clock : k ≡ S .clock) where
+      clear : obstacle S i (readLog v) ≡ none
+      clear = clear-none S (obstacle S i (readLog v)) (sym sought ∙ told)
+
+      pub reload-12 : k ≡ lastStamp M → reload M S i ≡ refused LastStamp
+      unfolding reload
+      reload-12 last = rw (is-twilight (slotAt S i) v here p, clear, eq-eqb (S .clock) (lastStamp M) (sym clock ∙ last))
+
+      module _ {w : SlotRecord} {reads : List ReadEntry} (made : w ≡ reloadedWith v reads (k + 1)) (anew : reads ≡ paddedReads (map (reloaded S) (readLog v))) where
+        pub reload-stands : Stands w (twilight false (v .start) (suc (S .clock)) (map (reloaded S) (readLog v)) (writeLog v))
+        reload-stands = rw (made, anew, clock, add-one (S .clock)) (reloaded-stands (slotAt S i) v here p (reloaded S) (suc (S .clock)))
+
+        pub reload-0 : (k ≡ lastStamp M → ⊥) → reload M S i ≡ accepted Done (turn S i (k + 1) (S .cells) (view w))
+        unfolding reload
+        reload-0 more =
+            rw (is-twilight (slotAt S i) v here p, clear, ne-eqb (S .clock) (lastStamp M) (λ e. more (clock ∙ e)), reload-stands .viewed, clock, add-one (S .clock))

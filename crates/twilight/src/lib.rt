@@ -1,0 +1,3 @@
+// The fourteen steps on a lent area.
+pub mod opening;
+pub mod zone;

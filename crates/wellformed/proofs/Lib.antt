@@ -1,0 +1,13 @@
+pub mod Chains
+pub mod Places
+pub mod Zero
+pub mod Tables
+pub mod Logs
+pub mod Marks
+pub mod Numbers
+pub mod Slots
+pub mod Holders
+pub mod Claims
+pub mod Held
+pub mod Turn
+pub mod Unique

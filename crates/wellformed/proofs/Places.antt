@@ -1,0 +1,85 @@
+-- The clauses of the header and of a cell, said of the bytes at their places: a record read from an offset on is its bytes there, and an element of a
+-- table is what stands at its place.
+use mathlib.Core.Bool.{true, false}
+use mathlib.Core.List.{List}
+use mathlib.Core.Path.{_≡_, refl, sym, _∙_}
+use Prim.Native.Nat.{ℕ, _+_, _*_, _<_, _≤_}
+use native.Mathlib.Omega.{arith}
+use borrow.Author.Tests.{lt-ltb, le-ltb, ltb-true, leb-true, eqb-true, eq-eqb, ne-eqb}
+use lib.Dec.{eqb, leb}
+use lib.ListN.{length, getD, drop}
+use lib.Seq.{drop-drop}
+use Rattle.wire.specs.Field.{be}
+use Rattle.wire.proofs.Laws.Table.{length-tab, getD-tab}
+use Rattle.value.specs.Legal.{legalWord}
+use Rattle.slot.specs.Logic.{_and_}
+use Rattle.slot.proofs.Logic.{and-assoc, and-left, and-right}
+use Rattle.slot.proofs.Entry.{first-byte}
+use Rattle.rules.specs.Model.{controller}
+use Rattle.rules.specs.State.{noCell}
+use Rattle.rules.specs.Layout.{cellOf, cellsIn, countIn}
+use Rattle.rules.specs.LogsRight.{cellRight, loggedRight, cellCountRight}
+use Rattle.rules.specs.AreaRight.{lengthsAgree, versionRight}
+use Rattle.rules.proofs.Controller.{controller-length}
+use Rattle.wellformed.specs.Frame.{headerRight, Framed}
+use Rattle.wellformed.proofs.Chains.{stop, pass}
+
+-- the header's clauses, in their order
+module _ (l : List ℕ) where
+  header-places :
+      (eqb (length l) (1590 + 14 * getD l 5 0) and eqb (be 4 (drop 1 l)) (length l) and eqb (getD l 0 0) 1 and cellCountRight controller (getD l 5 0))
+      ≡ headerRight l
+  unfolding headerRight lengthsAgree versionRight
+  header-places = rw (controller-length (getD l 5 0)) (sym (and-assoc _ _ _))
+
+  pub other-length : (length l ≡ 1590 + 14 * getD l 5 0 → ⊥) → false ≡ headerRight l
+  other-length h = stop _ _ _ (ne-eqb _ _ h) refl ∙ header-places
+
+  module _ (size : length l ≡ 1590 + 14 * getD l 5 0) where
+    pub other-field : (be 4 (drop 1 l) ≡ length l → ⊥) → false ≡ headerRight l
+    other-field h = pass _ _ _ (eq-eqb _ _ size) (stop _ _ _ (ne-eqb _ _ h) refl) ∙ header-places
+
+    pub header-rest : be 4 (drop 1 l) ≡ length l → (eqb (getD l 0 0) 1 and cellCountRight controller (getD l 5 0)) ≡ headerRight l
+    header-rest h = pass _ _ _ (eq-eqb _ _ size) (pass _ _ _ (eq-eqb _ _ h) refl) ∙ header-places
+
+pub framed : (n : ℕ) (l : List ℕ) → n ≡ getD l 5 0 → headerRight l ≡ true → Framed n l
+unfolding cellCountRight
+framed n l e p =
+    let h = header-places l ∙ p in
+    let size : length l ≡ 1590 + 14 * getD l 5 0 = eqb-true _ _ (and-left _ _ h) in
+    let few : getD l 5 0 ≤ 64 = leb-true _ _ (and-right _ _ (and-right _ _ (and-right _ _ (and-right _ _ h)))) in
+    record { count = sym e; size = omega arith; few = omega arith }
+
+-- the count is the header's own
+pub own-frame : {n : ℕ} {l : List ℕ} → Framed n l → Framed (countIn l) l
+own-frame f = record { count = refl; size = omega arith; few = omega arith }
+
+pub cell-places : (clock at : ℕ) (l : List ℕ)
+    → (legalWord (getD l at 0) (be 4 (drop (at + 2) l)) and leb (be 8 (drop (at + 6) l)) clock) ≡ cellRight clock (cellOf 8 (drop at l))
+unfolding cellRight cellOf
+cell-places clock at l = rw (first-byte l at, ← drop-drop 2 at l, ← drop-drop 6 at l)
+
+module _ (n : ℕ) (l : List ℕ) (f : Framed n l) where
+  pub length-cells : length (cellsIn controller l) ≡ n
+  unfolding cellsIn
+  length-cells = length-tab (countIn l) (λ c. cellOf 8 (drop (14 + 14 * c) l)) ∙ f .count
+
+  pub cell-at : (c : ℕ) → c < n → getD (cellsIn controller l) c noCell ≡ cellOf 8 (drop (14 + 14 * c) l)
+  unfolding cellsIn
+  cell-at c h = getD-tab (countIn l) (λ i. cellOf 8 (drop (14 + 14 * i) l)) noCell c (omega arith)
+
+  kind-at : (c : ℕ) → c < n → getD (cellsIn controller l) c noCell .kind ≡ getD l (14 + 14 * c) 0
+  unfolding cellOf
+  kind-at c h = rw (cell-at c h) (sym (first-byte l (14 + 14 * c)))
+
+  pub logged-place : (c word : ℕ) → c < n → legalWord (getD l (14 + 14 * c) 0) word ≡ loggedRight (cellsIn controller l) c word
+  unfolding loggedRight
+  logged-place c word h = pass _ _ _ (rw length-cells (lt-ltb c n h)) (rw (kind-at c h))
+
+  pub logged-past : (c word : ℕ) → n ≤ c → false ≡ loggedRight (cellsIn controller l) c word
+  unfolding loggedRight
+  logged-past c word h = stop _ _ _ (rw length-cells (le-ltb c n h)) refl
+
+  pub logged-below : (c word : ℕ) → loggedRight (cellsIn controller l) c word ≡ true → c < n
+  unfolding loggedRight
+  logged-below c word p = let below : c < length (cellsIn controller l) = ltb-true _ _ (and-left _ _ p) in rw length-cells at below

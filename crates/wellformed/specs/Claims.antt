@@ -1,0 +1,43 @@
+-- Which cells a slot claims, and what is due to each cell: the slot that has to hold it.
+use mathlib.Core.Bool.{Bool, true, not, cond}
+use mathlib.Core.List.{List}
+use mathlib.Core.Path.{_≡_}
+use Prim.Native.Nat.{ℕ, _+_, _*_, _<_, _≤_}
+use lib.Dec.{eqb}
+use lib.ListN.{length, getD, drop}
+use Rattle.wire.specs.Table.{tab}
+use Rattle.slot.specs.Layout.{writeOf}
+use Rattle.slot.specs.Logic.{_or_, every}
+use Rattle.slot.specs.Logs.{writesCell}
+use Rattle.rules.specs.Model.{controller}
+use Rattle.rules.specs.Layout.{countIn, clockIn, cellsIn}
+use Rattle.rules.specs.AreaRight.{slotPlaceRight}
+
+-- the holder's byte of cell c
+abbrev pub holderIn : List ℕ → ℕ → ℕ
+holderIn a c = getD a (14 + 14 * c + 1) 0
+
+-- the cell is in the part `from` to `to` of the write log of the slot at the head of l
+unfoldable pub inPart : List ℕ → ℕ → ℕ → ℕ → Bool
+inPart l from to c = writesCell (drop from (tab to (λ i. writeOf (drop (117 + 5 * i) l)))) c
+
+-- a slot that has to hold the cells of which H holds is the holder of each of them
+unfoldable pub claimRight : ℕ → (ℕ → ℕ) → (ℕ → Bool) → ℕ → Bool
+claimRight n holder H slot = every n (λ c. not (H c) or eqb (holder c) slot)
+
+-- a part of a write log that may be read, with cells below n
+pub record Part (n : ℕ) (l : List ℕ) (from to : ℕ) : Type 0 where
+  pub size : 197 ≤ length l
+  pub order : from ≤ to
+  pub within : to ≤ 16
+  pub below : (i : ℕ) → i < to → getD l (117 + 5 * i) 0 < n
+
+-- the bytes of a slot that is right but for the holders, in the area a
+pub record SlotRight (a l : List ℕ) : Type 0 where
+  pub size : 197 ≤ length l
+  pub right : slotPlaceRight controller (cellsIn controller a) (clockIn controller a) l ≡ true
+
+-- whether the claim is right in the area a; if so, the slot is now due to each cell that it claims, and nothing else has changed
+pub record Claimed (a : List ℕ) (H : ℕ → Bool) (slot : ℕ) (r : Bool) (before after : List ℕ) : Type 0 where
+  pub right : r ≡ claimRight (countIn a) (holderIn a) H slot
+  pub laid : r ≡ true → (c : ℕ) → c < countIn a → getD after c 0 ≡ cond (H c) slot (getD before c 0)

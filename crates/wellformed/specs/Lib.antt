@@ -1,0 +1,3 @@
+pub mod Frame
+pub mod Slots
+pub mod Claims

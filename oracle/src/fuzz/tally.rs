@@ -1,0 +1,109 @@
+//! What the calls have reached, so that a run can't compare nothing unseen.
+
+use std::fmt;
+
+use crate::call::Call;
+use crate::wellformed::{sentences, SENTENCE_COUNT};
+
+/// The least counts are those of so many calls; others are in proportion.
+const LEAST_COUNTS_ARE_FOR: u64 = 200_000;
+
+/// Counts of the calls that were answered alike.
+#[derive(Clone, Debug, Default)]
+pub struct Tally {
+    codes: [u64; 14],
+    done: [u64; 15],
+    marks: u64,
+    ignores: u64,
+    lay_outs: [u64; 7],
+    /// Areas with some bytes changed that are well formed all the same.
+    still_well_formed: u64,
+    /// Areas in which no other sentence is broken, for each sentence.
+    alone: [u64; SENTENCE_COUNT],
+}
+
+/// What is counted, how often it was there, and how often it has to be.
+type Count = (String, u64, u64);
+
+impl Tally {
+    /// Calls of both functions.
+    pub fn calls(&self) -> u64 {
+        self.codes.iter().chain(&self.lay_outs).sum()
+    }
+
+    pub(super) fn note_step(&mut self, call: Call, number: u64, changed: bool) {
+        let code = (number >> 40) as usize;
+        self.codes[code] += 1;
+        if code != 0 {
+            return;
+        }
+        self.done[usize::from(call.step)] += 1;
+        match call.step {
+            // Enter answers false: something is marked.
+            6 if number as u32 == 0 => self.marks += 1,
+            11 if changed => self.ignores += 1,
+            _ => {}
+        }
+    }
+
+    pub(super) fn note_lay_out(&mut self, code: u64) {
+        self.lay_outs[code as usize] += 1;
+    }
+
+    pub(super) fn note_faults(&mut self, faults: &[&str]) {
+        match faults {
+            [] => self.still_well_formed += 1,
+            [only] => {
+                let place = sentences().position(|sentence| sentence == *only);
+                self.alone[place.unwrap_or(0)] += 1;
+            }
+            _ => {}
+        }
+    }
+
+    /// The counts that are below their least.
+    pub fn short(&self) -> Vec<String> {
+        let calls = self.calls();
+        let counts = self.counts().into_iter();
+        let short = counts.filter_map(|(name, count, least)| {
+            let least = least * calls / LEAST_COUNTS_ARE_FOR;
+            (count < least).then(|| format!("{name}: {count}, and {least} is the least"))
+        });
+        short.collect()
+    }
+
+    fn counts(&self) -> Vec<Count> {
+        let mut counts: Vec<Count> = Vec::new();
+        for (code, count) in self.codes.iter().enumerate() {
+            counts.push((format!("code {code}"), *count, 100));
+        }
+        for (step, count) in self.done.iter().enumerate().skip(1) {
+            counts.push((format!("step {step} done"), *count, 300));
+        }
+        for code in [0, 1, 6] {
+            counts.push((format!("lay-out code {code}"), self.lay_outs[code], 200));
+        }
+        let named = [
+            ("commits", self.done[12], 1000),
+            ("enters that mark", self.marks, 300),
+            ("reloads", self.done[10], 400),
+            ("ignores that set the flag", self.ignores, 60),
+            ("aborts", self.codes[13], 100),
+            ("damaged and still well formed", self.still_well_formed, 2000),
+        ];
+        counts.extend(named.map(|(name, count, least)| (name.to_string(), count, least)));
+        for (sentence, count) in sentences().zip(self.alone) {
+            counts.push((format!("broken alone: {sentence}"), count, 5));
+        }
+        counts
+    }
+}
+
+impl fmt::Display for Tally {
+    fn fmt(&self, f: &mut fmt::Formatter) -> fmt::Result {
+        for (name, count, _) in self.counts() {
+            writeln!(f, "{count:10}  {name}")?;
+        }
+        write!(f, "{:10}  calls", self.calls())
+    }
+}

@@ -1,0 +1,169 @@
+//! The fuzzer passes what is right and catches what is wrong.
+
+use oracle::fuzz::{fuzz, one_round, Failure, Library, Tally};
+use oracle::{lay_out_on_bytes, step_in_place, step_on_bytes, Call};
+
+use crate::peek::Peek;
+
+type StepOnBytes = fn(&mut [u8], Call) -> u64;
+type LayOut = fn(&mut [u8], &[u8]) -> u64;
+
+/// Each is wrong in one way.
+const WRONG_STEPS: [(&str, StepOnBytes); 11] = [
+    ("always refuses", |_, _| 1 << 40),
+    ("always answers the same", |_, _| 0),
+    ("changes nothing", |area, call| step(&mut area.to_vec(), call)),
+    ("writes though it refuses", writes_though_it_refuses),
+    ("answers a kind too much", answers_a_kind_too_much),
+    ("leaves a byte in an idle slot", leaves_a_byte_in_an_idle_slot),
+    ("keeps the old stamp at reload", keeps_the_old_stamp_at_reload),
+    ("frees all at the first publish", frees_all_at_the_first_publish),
+    ("takes version 2", takes_version_2),
+    ("believes the area's own length", believes_the_areas_own_length),
+    ("uses an argument that the step does not use", |area, call| match call {
+        Call { step: 4, cell: 200.., .. } => 4 << 40,
+        _ => step(area, call),
+    }),
+];
+
+const WRONG_LAY_OUTS: [(&str, LayOut); 4] = [
+    ("codes as those of a step", |area, descriptions| lay_out_on_bytes(area, descriptions) << 40),
+    ("writes though it refuses", |area, descriptions| {
+        area.fill(0);
+        lay_out_on_bytes(area, descriptions)
+    }),
+    ("leaves the last byte", |area, descriptions| {
+        let last = area.last().copied();
+        let code = lay_out_on_bytes(area, descriptions);
+        area.last_mut().into_iter().zip(last).for_each(|(byte, last)| *byte = last);
+        code
+    }),
+    ("takes 65 cells", |area, descriptions| match descriptions.len() {
+        325 if area.len() == 2500 => 0,
+        _ => lay_out_on_bytes(area, descriptions),
+    }),
+];
+
+fn step(area: &mut [u8], call: Call) -> u64 {
+    step_on_bytes(area, call.step, call.slot, call.cell, call.kind, call.word)
+}
+
+fn in_place(area: &mut [u8], call: Call) -> u64 {
+    step_in_place(area, call.step, call.slot, call.cell, call.kind, call.word)
+}
+
+fn writes_though_it_refuses(area: &mut [u8], call: Call) -> u64 {
+    let number = step(area, call);
+    if number >> 40 == 4 {
+        area[13] ^= 1;
+    }
+    number
+}
+
+fn answers_a_kind_too_much(area: &mut [u8], call: Call) -> u64 {
+    let number = step(area, call);
+    if number >> 40 == 13 {
+        return number + (1 << 32);
+    }
+    number
+}
+
+fn leaves_a_byte_in_an_idle_slot(area: &mut [u8], call: Call) -> u64 {
+    let number = step(area, call);
+    if call.step == 14 && number == 0 {
+        let at = Peek(area).slot_at(call.slot);
+        area[at + 196] = 1;
+    }
+    number
+}
+
+fn keeps_the_old_stamp_at_reload(area: &mut [u8], call: Call) -> u64 {
+    let before = area.to_vec();
+    let number = step(area, call);
+    if call.step == 10 && number == 0 {
+        let at = Peek(area).slot_at(call.slot) + 13;
+        area[at..at + 8].copy_from_slice(&before[at..at + 8]);
+    }
+    number
+}
+
+fn frees_all_at_the_first_publish(area: &mut [u8], call: Call) -> u64 {
+    let number = step(area, call);
+    if call.step != 13 || number != 0 {
+        return number;
+    }
+    for cell in 0..Peek(area).n() {
+        let at = Peek(area).cell_at(cell) + 1;
+        if area[at] == call.slot {
+            area[at] = 0;
+        }
+    }
+    number
+}
+
+fn takes_version_2(area: &mut [u8], call: Call) -> u64 {
+    if area.first() != Some(&2) {
+        return step(area, call);
+    }
+    area[0] = 1;
+    let number = step(area, call);
+    area[0] = 2;
+    number
+}
+
+fn believes_the_areas_own_length(area: &mut [u8], call: Call) -> u64 {
+    let own = area.get(3..5).map(|field| usize::from(field[0]) << 8 | usize::from(field[1]));
+    let length = own.unwrap_or(0).min(area.len());
+    step(&mut area[..length], call)
+}
+
+fn run(step: StepOnBytes, lay_out: LayOut, calls: u64) -> Result<Tally, Failure> {
+    fuzz(Library { step, lay_out }, 1, calls, &mut |_, _| {})
+}
+
+/// As many calls as the least counts are for, so this is the test of the step
+/// in place, too.
+#[test]
+fn the_step_in_place_is_the_step_and_every_least_count_is_reached() {
+    let tally = run(in_place, lay_out_on_bytes, 200_000);
+    let tally = tally.unwrap_or_else(|failure| panic!("{failure}"));
+    assert!(tally.calls() >= 200_000);
+    assert_eq!(tally.short(), [""; 0], "{tally}");
+}
+
+#[test]
+fn a_run_that_reaches_little_is_told_so() {
+    let mut tally = Tally::default();
+    let library = Library { step, lay_out: lay_out_on_bytes };
+    // Rounds of the first sort only.
+    for round in (0..4000).step_by(7) {
+        one_round(library, 1, round, &mut tally).unwrap_or_else(|failure| panic!("{failure}"));
+    }
+    let short = tally.short();
+    assert!(short.iter().any(|line| line.starts_with("code 12")), "{short:?}");
+    assert!(short.iter().any(|line| line.starts_with("broken alone: version 1")), "{short:?}");
+}
+
+#[test]
+fn every_wrong_step_is_caught() {
+    for (name, wrong) in WRONG_STEPS {
+        assert!(run(wrong, lay_out_on_bytes, 50_000).is_err(), "{name}");
+    }
+}
+
+#[test]
+fn every_wrong_lay_out_is_caught() {
+    for (name, wrong) in WRONG_LAY_OUTS {
+        assert!(run(step, wrong, 50_000).is_err(), "{name}");
+    }
+}
+
+#[test]
+fn a_failure_is_repeated_by_its_round_alone() {
+    let failure = run(takes_version_2, lay_out_on_bytes, 50_000).expect_err("a wrong library");
+    let library = Library { step: takes_version_2, lay_out: lay_out_on_bytes };
+    let again = one_round(library, 1, failure.round, &mut Tally::default());
+    assert_eq!(again.expect_err("the same").to_string(), failure.to_string());
+    assert!(failure.to_string().contains("answer: wanted code 1, kind 0, word 00000000"));
+    assert!(failure.to_string().ends_with(&format!("seed 1, round {}", failure.round)));
+}

@@ -1,0 +1,73 @@
+//! The constants of the C header are the document's numbers.
+
+use oracle::{area_length, Kind, Refusal, Reply, Step};
+
+const HEADER: &str = include_str!("../../../include/crocktendril.h");
+
+/// What the header defines a name as.
+fn defined(name: &str) -> Option<&'static str> {
+    let start = format!("#define CROCKTENDRIL_{name} ");
+    HEADER.lines().find_map(|line| line.strip_prefix(start.as_str()))
+}
+
+fn check(name: &str, number: u8) {
+    assert_eq!(defined(name), Some(number.to_string().as_str()), "{name}");
+}
+
+fn names_with(prefix: &str) -> usize {
+    let start = format!("#define CROCKTENDRIL_{prefix}_");
+    HEADER.lines().filter(|line| line.starts_with(&start)).count()
+}
+
+#[test]
+fn steps_and_kinds() {
+    for step in Step::ALL {
+        let name = step.name().to_uppercase().replace(' ', "_");
+        check(&format!("STEP_{name}"), step.number());
+    }
+    assert_eq!(names_with("STEP"), 14);
+    for kind in Kind::ALL {
+        check(&format!("KIND_{}", kind.name().to_uppercase()), kind.number());
+    }
+    check("KIND_NONE", Reply::Done.kind());
+    assert_eq!(names_with("KIND"), 4);
+}
+
+#[test]
+fn codes_of_steps() {
+    use Refusal::*;
+    let refusals = [
+        ("NOT_WELL_FORMED", NotWellFormed),
+        ("NO_SUCH_STEP", NoSuchStep),
+        ("NO_SUCH_SLOT", NoSuchSlot),
+        ("NOT_ALLOWED", NotAllowed),
+        ("NO_SUCH_CELL", NoSuchCell),
+        ("ILLEGAL_VALUE", IllegalValue),
+        ("OTHER_KIND", OtherKind),
+        ("NOT_IN_LOG", NotInLog),
+        ("LOG_FULL", LogFull),
+        ("NOT_READABLE", NotReadable),
+        ("HELD_BY_ANOTHER", HeldByAnother),
+        ("LAST_STAMP", ClockAtEnd),
+    ];
+    for (name, refusal) in refusals {
+        check(&format!("CODE_{name}"), refusal as u8);
+    }
+    check("CODE_DONE", Reply::Done.code());
+    check("CODE_ABORTED", Reply::Ended.code());
+    assert_eq!(names_with("CODE"), 14);
+}
+
+#[test]
+fn lay_out_and_lengths() {
+    check("LAY_OUT_DONE", 0);
+    check("LAY_OUT_WRONG_LENGTH", 1);
+    check("LAY_OUT_ILLEGAL_VALUE", 6);
+    assert_eq!(names_with("LAY_OUT"), 3);
+    check("CELLS_MAX", 64);
+    check("SLOTS", 8);
+    check("LOG_MAX", 16);
+    check("DESCRIPTION_LENGTH", 5);
+    assert_eq!(defined("AREA_LENGTH(n)"), Some("(1590 + 14 * (n))"));
+    assert_eq!(area_length(0), 1590);
+}
