@@ -1,2 +1,3 @@
 pub mod OpeningLaws
 pub mod ZoneLaws
+pub mod Unique
