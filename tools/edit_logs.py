@@ -51,7 +51,7 @@ def main():
     faults = [(edit, why) for edit in edits for why in [fault(edit)] if why]
     for edit, why in faults:
         print('%s: %s' % (edit, why))
-    print('must-fail edits: %d, refused at a fact: %d' % (len(edits), len(edits) - len(faults)))
+    print('must-fail edits: %d, not refused for their shape: %d' % (len(edits), len(edits) - len(faults)))
     sys.exit(1 if faults else 0)
 
 

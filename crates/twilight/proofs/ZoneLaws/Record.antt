@@ -1,7 +1,7 @@
 -- What each operation makes of a slot's record stands for the step's next slot: a busy slot's record is laid down from its own fields and logs, and the operations'
 -- laws say what becomes of such a record.
 use mathlib.Core.Bool.{Bool, true, false, cond}
-use mathlib.Core.List.{map}
+use mathlib.Core.List.{List, map}
 use mathlib.Core.Path.{_≡_, refl, sym, _∙_, ap}
 use Prim.Native.Nat.{ℕ, suc}
 use lib.Dec.{ltb}
@@ -39,23 +39,25 @@ laid-either true x y = refl
 laid-either false x y = refl
 
 module _ (x : Slot) (v : SlotRecord) (here : v ≡ lay x) where
-  pub entered-stands : v .phase ≡ 2 → (f : ReadEntry → ReadEntry) (commit : ℕ)
-      → Stands (entered v (paddedReads (map f (readLog v))) commit) (twilight false (v .start) commit (map f (readLog v)) (writeLog v))
-  entered-stands p f commit =
-      stands _
-      (ap (λ (u : SlotRecord). entered u (paddedReads (map f (readLog v))) commit) (here ∙ ap lay (is-locking x v here p))
-      ∙ busy-entered 2 false (v .taken) (v .start) 0 (readLog v) (writeLog v) (map f (readLog v)) commit (length-map (readLog v) f))
+  -- the read log with each entry changed by f
+  module _ (f : ReadEntry → ReadEntry) {w : SlotRecord} {reads : List ReadEntry} {commit : ℕ} (anew : reads ≡ paddedReads (map f (readLog v))) where
+    pub entered-stands : v .phase ≡ 2 → w ≡ entered v reads commit → Stands w (twilight false (v .start) commit (map f (readLog v)) (writeLog v))
+    entered-stands p made =
+        stands _
+        (made
+        ∙ (λ j. entered ((here ∙ ap lay (is-locking x v here p)) j) (anew j) commit)
+        ∙ busy-entered 2 false (v .taken) (v .start) 0 (readLog v) (writeLog v) (map f (readLog v)) commit (length-map (readLog v) f))
+
+    pub reloaded-stands : v .phase ≡ 3 → w ≡ reloadedWith v reads commit → Stands w (twilight false (v .start) commit (map f (readLog v)) (writeLog v))
+    reloaded-stands p made =
+        stands _
+        (made
+        ∙ (λ j. reloadedWith ((here ∙ ap lay (is-twilight x v here p)) j) (anew j) commit)
+        ∙ busy-reloaded 3 (v .ignoring) 0 (v .start) (v .commit) (readLog v) (writeLog v) (map f (readLog v)) commit (length-map (readLog v) f))
 
   module _ (p : v .phase ≡ 3) where
     laid : v ≡ busyRecord 3 (v .ignoring) 0 (v .start) (v .commit) (readLog v) (writeLog v)
     laid = here ∙ ap lay (is-twilight x v here p)
-
-    pub reloaded-stands : (f : ReadEntry → ReadEntry) (commit : ℕ)
-        → Stands (reloadedWith v (paddedReads (map f (readLog v))) commit) (twilight false (v .start) commit (map f (readLog v)) (writeLog v))
-    reloaded-stands f commit =
-        stands _
-        (ap (λ (u : SlotRecord). reloadedWith u (paddedReads (map f (readLog v))) commit) laid
-        ∙ busy-reloaded 3 (v .ignoring) 0 (v .start) (v .commit) (readLog v) (writeLog v) (map f (readLog v)) commit (length-map (readLog v) f))
 
     module _ {w : SlotRecord} where
       pub updated-stands : (e : WriteEntry) → w ≡ written v e → Stands w (twilight (v .ignoring) (v .start) (v .commit) (readLog v) (putWrite e (writeLog v)))

@@ -5,6 +5,7 @@ use mathlib.Core.Option.{some}
 use mathlib.Core.Path.{_≡_, _∙_, ap}
 use Prim.Native.Nat.{ℕ, _<_, _≤_}
 use native.Mathlib.Omega.{arith}
+use lib.Dec.{eqb}
 use lib.ListN.{length, getD}
 use lib.Seq.{getD-take}
 use borrow.Author.Tests.{ltb-true}
@@ -49,7 +50,7 @@ module _ (l : List ℕ) (good : Good l) (i : ℕ) (below : i < 8) (v : SlotRecor
       let logs = logs-hold (stateIn l .cells) (stateIn l .clock) (v .start) (readLog v) (writeLog v) (and-left _ _ (rw slot at slot-right)) in
       let count = write-count (slotAt (stateIn l) i) v here in
       let few : length (writeLog v) ≤ writeCapacity = logs .writesFew in
-      let has : writesCell (writeLog v) c ≡ true = of-some (λ (f : WriteEntry). lib.Dec.eqb (f .cell) c) (writeLog v) found e in
+      let has : writesCell (writeLog v) c ≡ true = of-some (λ (f : WriteEntry). eqb (f .cell) c) (writeLog v) found e in
       let same = put-length-same (record { cell = c; word = word }) (writeLog v) has (and-right _ _ (logs .writesHold)) in
       record { counted = omega arith; unused = ap (λ (u : SlotRecord). u .writes) (here ∙ ap lay slot); room = omega arith }
 

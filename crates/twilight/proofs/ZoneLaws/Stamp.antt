@@ -24,9 +24,9 @@ use Rattle.area.specs.declared.Obstacle.the-variants.{Held, Clear}
 use Rattle.area.specs.Reload.{obstacleOf}
 use Rattle.twilight.proofs.ZoneLaws.Found.{held-refused, clear-none}
 use Rattle.twilight.proofs.ZoneLaws.Phase.{write-count, is-locking, is-twilight, not-locking, not-twilight}
-use Rattle.twilight.proofs.ZoneLaws.Record.{Stands, entered-stands, reloaded-stands}
+use Rattle.twilight.proofs.ZoneLaws.Record.{entered-stands, reloaded-stands}
 
--- slot i's record is v, and the clock stands at k
+-- slot i's record is v
 module _ (M : Model) (S : State) (i : ℕ) {v : SlotRecord} (here : v ≡ lay (slotAt S i)) where
   pub enter-4 : (v .phase ≡ 2 → ⊥) → enter M S i ≡ refused NotAllowed
   unfolding enter
@@ -52,14 +52,14 @@ module _ (M : Model) (S : State) (i : ℕ) {v : SlotRecord} (here : v ≡ lay (s
       pub enter-12 : k ≡ lastStamp M → enter M S i ≡ refused LastStamp
       enter-12 last = at-locking ∙ rw (le-ltb (v .taken) (v .writecount) taken, eq-eqb (S .clock) (lastStamp M) (sym clock ∙ last))
 
-      module _ {w : SlotRecord} {reads : List ReadEntry} (made : w ≡ entered v reads (k + 1)) (marked : reads ≡ paddedReads (map (withMark S i (v .start)) (readLog v))) where
-        pub enter-stands : Stands w (twilight false (v .start) (suc (S .clock)) (map (withMark S i (v .start)) (readLog v)) (writeLog v))
-        enter-stands = rw (made, marked, clock, add-one (S .clock)) (entered-stands (slotAt S i) v here p (withMark S i (v .start)) (suc (S .clock)))
-
-        pub enter-0 : (k ≡ lastStamp M → ⊥) → enter M S i ≡ accepted (Verdict (not (someMarked (readLog w)))) (turn S i (k + 1) (S .cells) (view w))
-        enter-0 more =
-            at-locking
-            ∙ rw (le-ltb (v .taken) (v .writecount) taken, ne-eqb (S .clock) (lastStamp M) (λ e. more (clock ∙ e)), enter-stands .viewed, enter-stands .reads, clock, add-one (S .clock))
+      pub enter-0 : {w : SlotRecord} {reads : List ReadEntry} → (k ≡ lastStamp M → ⊥)
+          → reads ≡ paddedReads (map (withMark S i (v .start)) (readLog v)) → w ≡ entered v reads (k + 1)
+          → enter M S i ≡ accepted (Verdict (not (someMarked (readLog w)))) (turn S i (k + 1) (S .cells) (view w))
+      enter-0 more marked made =
+          let next : suc (S .clock) ≡ k + 1 = rw (clock, add-one (S .clock)) in
+          let there = entered-stands (slotAt S i) v here (withMark S i (v .start)) marked p made in
+          at-locking
+          ∙ rw (le-ltb (v .taken) (v .writecount) taken, ne-eqb (S .clock) (lastStamp M) (λ e. more (clock ∙ e)), next, there .viewed, there .reads)
 
   module _ (p : v .phase ≡ 3) {o : Obstacle} (sought : o ≡ obstacleOf S (obstacle S i (readLog v))) where
     pub reload-11 : {cell holder : ℕ} → o ≡ Held cell holder → reload M S i ≡ refused (ReloadHeld cell holder)
@@ -74,11 +74,16 @@ module _ (M : Model) (S : State) (i : ℕ) {v : SlotRecord} (here : v ≡ lay (s
       unfolding reload
       reload-12 last = rw (is-twilight (slotAt S i) v here p, clear, eq-eqb (S .clock) (lastStamp M) (sym clock ∙ last))
 
-      module _ {w : SlotRecord} {reads : List ReadEntry} (made : w ≡ reloadedWith v reads (k + 1)) (anew : reads ≡ paddedReads (map (reloaded S) (readLog v))) where
-        pub reload-stands : Stands w (twilight false (v .start) (suc (S .clock)) (map (reloaded S) (readLog v)) (writeLog v))
-        reload-stands = rw (made, anew, clock, add-one (S .clock)) (reloaded-stands (slotAt S i) v here p (reloaded S) (suc (S .clock)))
-
-        pub reload-0 : (k ≡ lastStamp M → ⊥) → reload M S i ≡ accepted Done (turn S i (k + 1) (S .cells) (view w))
-        unfolding reload
-        reload-0 more =
-            rw (is-twilight (slotAt S i) v here p, clear, ne-eqb (S .clock) (lastStamp M) (λ e. more (clock ∙ e)), reload-stands .viewed, clock, add-one (S .clock))
+      pub reload-0 : {w : SlotRecord} {reads : List ReadEntry} → (k ≡ lastStamp M → ⊥)
+          → reads ≡ paddedReads (map (reloaded S) (readLog v)) → w ≡ reloadedWith v reads (k + 1)
+          → reload M S i ≡ accepted Done (turn S i (k + 1) (S .cells) (view w))
+      unfolding reload
+      reload-0 more anew made =
+          let next : suc (S .clock) ≡ k + 1 = rw (clock, add-one (S .clock)) in
+          rw (
+            is-twilight (slotAt S i) v here p,
+            clear,
+            ne-eqb (S .clock) (lastStamp M) (λ e. more (clock ∙ e)),
+            next,
+            reloaded-stands (slotAt S i) v here (reloaded S) anew p made .viewed,
+          )

@@ -1,11 +1,14 @@
 -- Only a locking slot with no cell missing enters, below the last stamp: its record with the marked reads and the next stamp is stored, and with it the clock. What the
 -- record says of marks is what the marked reads say, since they are its read log.
 use borrow.Author.Needs.{needs}
+use Rattle.rules.specs.Cells.{withMark}
 use Rattle.rules.specs.Model.{controller}
+use Rattle.rules.specs.State.{slotAt}
 use Rattle.area.proofs.Logged.{logged-of}
 use Rattle.area.specs.Good.{stateIn}
 use Rattle.twilight.proofs.ZoneLaws.Done.{refuses, leaves}
-use Rattle.twilight.proofs.ZoneLaws.Stamp.{enter-4, enter-missing, enter-12, enter-stands, enter-0}
+use Rattle.twilight.proofs.ZoneLaws.Record.{entered-stands}
+use Rattle.twilight.proofs.ZoneLaws.Stamp.{enter-4, enter-missing, enter-12, enter-0}
 use Rattle.twilight.proofs.zone.enter.Statement.{statement}
 use Rattle.twilight.proofs.zone.enter.Tie as tie
 
@@ -46,20 +49,19 @@ marked-reads-requires : tie.Need-marked-reads-requires
 marked-reads-requires c κs =
     let locking = c .before .before .before .before .before .before in
     let start = locking .before .before .before .before .before in
-    (start .pre .0, start .pre .1, logged-of _ (start .pre .0) _ (start .pre .1) _ (locking .before .before .slot-at .ensures))
+    (search needs, search needs, logged-of _ (start .pre .0) _ (start .pre .1) _ (locking .before .before .slot-at .ensures))
 
 entered-requires : tie.Need-entered-requires
 entered-requires c κs = search needs
 
 store-slot-clock-requires : tie.Need-store-slot-clock-requires
 store-slot-clock-requires c κs =
-    let below = c .before .before .before .before in
-    let taken = below .before .before .before in
-    let locking = taken .before .before in
+    let locking = c .before .before .before .before .before .before .before .before .before in
     let start = locking .before .before .before .before .before in
-    let kept = enter-stands controller (stateIn (start .args .s .now)) (start .args .i) (locking .before .before .slot-at .ensures) (locking .if1 .left)
-    (taken .if2 .left) (below .before .clock .ensures) (c .before .entered .ensures) (c .before .before .marked-reads .ensures) .kept in
-    (start .pre .0, start .pre .1, kept)
+    let kept = entered-stands (slotAt (stateIn (start .args .s .now)) (start .args .i)) _ (locking .before .before .slot-at .ensures)
+    (withMark (stateIn (start .args .s .now)) (start .args .i) _) (c .before .before .marked-reads .ensures) (locking .if1 .left)
+    (c .before .entered .ensures) .kept in
+    (search needs, search needs, kept)
 
 some-marked-requires : tie.Need-some-marked-requires
 some-marked-requires c κs = search needs
@@ -74,7 +76,7 @@ returns-4 c =
     let locking = taken .before .before in
     rw (c .some-marked .ensures)
     (leaves _ (enter-0 controller _ _ (locking .before .before .slot-at .ensures) (locking .if1 .left) (taken .if2 .left) (below .before .clock .ensures)
-    (c .before .before .before .before .before .entered .ensures) (c .before .before .before .before .before .before .marked-reads .ensures) (below .if3 .left))
+    (below .if3 .left) (c .before .before .before .before .before .before .marked-reads .ensures) (c .before .before .before .before .before .entered .ensures))
     (c .before .before .before .store-slot-clock .ensures))
 
 pub enter-spec : {M : Type 1} → statement M

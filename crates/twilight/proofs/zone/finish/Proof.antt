@@ -26,9 +26,8 @@ empty-requires c κs = search needs
 
 store-slot-freed-requires : tie.Need-store-slot-freed-requires
 store-slot-freed-requires c κs =
-    let start = c .before .before .before .before .before .before .before .before .before in
     let kept = empty-stands (c .empty .ensures) .kept in
-    (start .pre .0, start .pre .1, kept)
+    (search needs, search needs, kept)
 
 same-length-2 : tie.Need-same-length-2
 same-length-2 c = search needs
@@ -49,7 +48,7 @@ store-slot-requires c κs =
     let start = zone .before .before .before .before .before in
     let kept = finished-stands (slotAt (stateIn (start .args .s .now)) (start .args .i)) _ (zone .before .before .slot-at .ensures) (zone .if1 .left)
     (c .finished .ensures) .kept in
-    (start .pre .0, start .pre .1, kept)
+    (search needs, search needs, kept)
 
 same-length-3 : tie.Need-same-length-3
 same-length-3 c = search needs

@@ -30,7 +30,7 @@ store-slot-requires c κs =
     let start = zone .before .before .before .before .before in
     let kept = ignoring-stands (slotAt (stateIn (start .args .s .now)) (start .args .i)) _ (zone .before .before .slot-at .ensures) (zone .if1 .left)
     (c .ignoring-set .ensures) .kept in
-    (start .pre .0, start .pre .1, kept)
+    (search needs, search needs, kept)
 
 same-length-2 : tie.Need-same-length-2
 same-length-2 c = search needs

@@ -35,7 +35,7 @@ cell-at-requires : tie.Need-cell-at-requires
 cell-at-requires c κs =
     let zone = c .before .before in
     let start = zone .before .before .before .before in
-    (start .pre .0, next-of _ (start .pre .0) _ (start .pre .1) _ (zone .before .slot-at .ensures) (zone .if1 .left) .inside)
+    (search needs, next-of _ (start .pre .0) _ (start .pre .1) _ (zone .before .slot-at .ensures) (zone .if1 .left) .inside)
 
 published-one-requires : tie.Need-published-one-requires
 published-one-requires c κs =
@@ -51,7 +51,7 @@ store-slot-cell-requires c κs =
     let kept = published-stands (slotAt (stateIn (start .args .s .now)) (start .args .i)) _ (zone .before .slot-at .ensures) (zone .if1 .left)
     (c .published-one .ensures) .kept in
     let next = next-of _ (start .pre .0) _ (start .pre .1) _ (zone .before .slot-at .ensures) (zone .if1 .left) in
-    (start .pre .0, start .pre .1, kept, next .inside)
+    (search needs, search needs, kept, next .inside)
 
 same-length-2 : tie.Need-same-length-2
 same-length-2 c = search needs

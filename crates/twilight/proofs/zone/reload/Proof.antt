@@ -1,10 +1,13 @@
 -- Only a slot in twilight reloads, with nothing in its way and below the last stamp: its record with the reads taken anew and the next stamp is stored, and with it the clock.
 use borrow.Author.Needs.{needs}
+use Rattle.rules.specs.Cells.{reloaded}
 use Rattle.rules.specs.Model.{controller}
+use Rattle.rules.specs.State.{slotAt}
 use Rattle.area.proofs.Logged.{logged-of}
 use Rattle.area.specs.Good.{stateIn}
 use Rattle.twilight.proofs.ZoneLaws.Done.{refuses, leaves}
-use Rattle.twilight.proofs.ZoneLaws.Stamp.{reload-4, reload-11, reload-12, reload-stands, reload-0}
+use Rattle.twilight.proofs.ZoneLaws.Record.{reloaded-stands}
+use Rattle.twilight.proofs.ZoneLaws.Stamp.{reload-4, reload-11, reload-12, reload-0}
 use Rattle.twilight.proofs.zone.reload.Statement.{statement}
 use Rattle.twilight.proofs.zone.reload.Tie as tie
 
@@ -21,7 +24,7 @@ first-obstacle-requires : tie.Need-first-obstacle-requires
 first-obstacle-requires c κs =
     let zone = c .before in
     let start = zone .before .before .before .before .before in
-    (start .pre .0, start .pre .1, logged-of _ (start .pre .0) _ (start .pre .1) _ (zone .before .before .slot-at .ensures))
+    (search needs, search needs, logged-of _ (start .pre .0) _ (start .pre .1) _ (zone .before .before .slot-at .ensures))
 
 enum-known-cell : tie.Need-enum-known-cell
 enum-known-cell c = search needs
@@ -58,21 +61,18 @@ reloaded-reads-requires : tie.Need-reloaded-reads-requires
 reloaded-reads-requires c κs =
     let zone = c .before .before .before .before .before .before .before .before in
     let start = zone .before .before .before .before .before in
-    (start .pre .0, logged-of _ (start .pre .0) _ (start .pre .1) _ (zone .before .before .slot-at .ensures))
+    (search needs, logged-of _ (start .pre .0) _ (start .pre .1) _ (zone .before .before .slot-at .ensures))
 
 reloaded-requires : tie.Need-reloaded-requires
 reloaded-requires c κs = search needs
 
 store-slot-clock-requires : tie.Need-store-slot-clock-requires
 store-slot-clock-requires c κs =
-    let below = c .before .before .before .before in
-    let clear = below .before .before .before in
-    let zone = clear .before .before .before .before in
+    let zone = c .before .before .before .before .before .before .before .before .before .before .before in
     let start = zone .before .before .before .before .before in
-    let kept = reload-stands controller (stateIn (start .args .s .now)) (start .args .i) (zone .before .before .slot-at .ensures) (zone .if1 .left)
-    (clear .before .before .first-obstacle .ensures) (clear .enum-told .given .1) (below .before .clock .ensures) (c .before .reloaded .ensures)
-    (c .before .before .reloaded-reads .ensures) .kept in
-    (start .pre .0, start .pre .1, kept)
+    let kept = reloaded-stands (slotAt (stateIn (start .args .s .now)) (start .args .i)) _ (zone .before .before .slot-at .ensures)
+    (reloaded (stateIn (start .args .s .now))) (c .before .before .reloaded-reads .ensures) (zone .if1 .left) (c .before .reloaded .ensures) .kept in
+    (search needs, search needs, kept)
 
 same-length-4 : tie.Need-same-length-4
 same-length-4 c = search needs
@@ -83,8 +83,8 @@ returns-4 c =
     let clear = below .before .before .before in
     let zone = clear .before .before .before .before in
     leaves _ (reload-0 controller _ _ (zone .before .before .slot-at .ensures) (zone .if1 .left) (clear .before .before .first-obstacle .ensures)
-    (clear .enum-told .given .1) (below .before .clock .ensures) (c .before .before .before .before .reloaded .ensures)
-    (c .before .before .before .before .before .reloaded-reads .ensures) (below .if2 .left)) (c .before .before .store-slot-clock .ensures)
+    (clear .enum-told .given .1) (below .before .clock .ensures) (below .if2 .left) (c .before .before .before .before .before .reloaded-reads .ensures)
+    (c .before .before .before .before .reloaded .ensures)) (c .before .before .store-slot-clock .ensures)
 
 pub reload-spec : {M : Type 1} → statement M
 reload-spec =

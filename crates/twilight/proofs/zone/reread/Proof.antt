@@ -50,7 +50,7 @@ cell-at-requires : tie.Need-cell-at-requires
 cell-at-requires c κs =
     let inside = c .before .before .before .before .before in
     let start = inside .before .before .before .before .before .before .before .before in
-    (start .pre .0, rw (inside .before .count .ensures, count-read controller (start .args .s .now)) at (inside .if2 .left))
+    (search needs, rw (inside .before .count .ensures, count-read controller (start .args .s .now)) at (inside .if2 .left))
 
 value-of-requires : tie.Need-value-of-requires
 value-of-requires c κs = search needs

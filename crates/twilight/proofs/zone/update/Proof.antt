@@ -55,7 +55,7 @@ cell-at-requires : tie.Need-cell-at-requires
 cell-at-requires c κs =
     let inside = c .before .before .before .before .before in
     let start = inside .before .before .before .before .before .before .before .before in
-    (start .pre .0, rw (inside .before .count .ensures, count-read controller (start .args .s .now)) at (inside .if2 .left))
+    (search needs, rw (inside .before .count .ensures, count-read controller (start .args .s .now)) at (inside .if2 .left))
 
 same-length-4 : tie.Need-same-length-4
 same-length-4 c = search needs
@@ -105,7 +105,7 @@ store-slot-requires c κs =
     let start = zone .before .before .before .before .before in
     let kept = updated-stands (slotAt (stateIn (start .args .s .now)) (start .args .i)) _ (zone .before .before .slot-at .ensures) (zone .if1 .left) _
     (c .written .ensures) .kept in
-    (start .pre .0, start .pre .1, kept)
+    (search needs, search needs, kept)
 
 same-length-6 : tie.Need-same-length-6
 same-length-6 c = search needs
