@@ -1,13 +1,11 @@
 -- A function that returns false at the first test that fails decides the conjunction of its tests, and a loop that does so decides `every`.
 use mathlib.Core.Bool.{Bool, true, false, not, cond, false≢true}
 use mathlib.Core.Path.{_≡_, refl, sym, _∙_, ap}
-use Prim.Native.Nat.{ℕ, zero, suc, _+_, _<_, _≤_}
+use Prim.Native.Nat.{ℕ, zero, suc, _+_, _<_}
 use native.Mathlib.Numerals.{add-one}
-use native.Mathlib.Omega.{arith}
-use borrow.Author.Tests.{not-true, not-false, ltb-true, ltb-false}
-use lib.Dec.{ltb}
+use borrow.Author.Tests.{not-true, not-false}
 use Rattle.slot.specs.Logic.{_and_, _or_, every}
-use Rattle.slot.proofs.Logic.{and-assoc, true-and, every-at, every-of, both-ways}
+use Rattle.slot.proofs.Logic.{and-assoc, true-and, every-at, both-ways}
 
 -- a test holds or fails
 pub either : {P : Type 0} (b : Bool) → (b ≡ true → P) → (b ≡ false → P) → P
@@ -81,10 +79,3 @@ every-and (suc n) f g = law (every n f) (f n) (every n g) (g n) (every n (λ i. 
   where
     law : (a b c d e : Bool) → (a and c) ≡ e → ((a and b) and (c and d)) ≡ (e and (b and d))
     law a b c d e p = rw (← p) (simp (and-assoc, and-swap, and-comm))
-
--- a test that holds from `k` on is decided below `k`
-pub every-cut : (n k : ℕ) (f : ℕ → Bool) → k ≤ n → ((i : ℕ) → k ≤ i → i < n → f i ≡ true) → every n f ≡ every k f
-every-cut n k f h p =
-    both-ways (every n f) (every k f)
-    (λ q. every-of k f (λ i b. every-at n f q i (omega arith)))
-    (λ q. every-of n f (λ i b. either (ltb i k) (λ e. every-at k f q i (ltb-true i k e)) (λ e. p i (ltb-false i k e) b)))

@@ -22,7 +22,7 @@ use Rattle.rules.specs.Layout.{countIn}
 use Rattle.wellformed.specs.Claims.{holderIn, inPart, claimRight, Claimed}
 use Rattle.wellformed.proofs.Chains.{either}
 use Rattle.wellformed.proofs.Tables.{or-false, any-snoc}
-use Rattle.wellformed.proofs.Holders.{claim-at, claim-of}
+use Rattle.wellformed.proofs.HolderLaws.{claim-at, claim-of}
 
 -- a part of a write log: no entry, one entry more, and each entry's cell
 module _ (l : List ℕ) (from : ℕ) where

@@ -24,8 +24,8 @@ use Rattle.wellformed.specs.Claims.{inPart, Part, SlotRight}
 use Rattle.wellformed.proofs.Chains.{pick-yes, pick-no}
 use Rattle.wellformed.proofs.Tables.{take-tab}
 use Rattle.wellformed.proofs.Places.{logged-below}
-use Rattle.wellformed.proofs.Logs.{wordIn, writes-at}
-use Rattle.wellformed.proofs.Slots.{counted, busy-order}
+use Rattle.wellformed.proofs.LogLaws.{wordIn, writes-at}
+use Rattle.wellformed.proofs.SlotLaws.{counted, busy-order}
 
 -- a part of the write log that may be read, and has just the cells that the slot has to hold
 pub record Held (n : ℕ) (l : List ℕ) (from to : ℕ) : Type 0 where

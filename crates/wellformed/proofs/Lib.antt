@@ -1,12 +1,13 @@
 pub mod Chains
 pub mod Places
+pub mod Words
 pub mod Zero
 pub mod Tables
-pub mod Logs
+pub mod LogLaws
 pub mod Marks
 pub mod Numbers
-pub mod Slots
-pub mod Holders
+pub mod SlotLaws
+pub mod HolderLaws
 pub mod Claims
 pub mod Held
 pub mod Turn

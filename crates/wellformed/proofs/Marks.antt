@@ -1,5 +1,5 @@
--- The marks of a log gathered by a bitwise or: numbers up to 1 are bits, on which it is a disjunction, and no number above 1 gets lost in it. Marks past
--- the count are zero where unused entries are.
+-- The marks of a log gathered by a bitwise or: numbers up to 1 are bits, on which it is a disjunction, and no number above 1 gets lost in it. No entry past
+-- the count is marked where unused entries are zero.
 use mathlib.Core.Bool.{Bool, true, false, not}
 use mathlib.Core.List.{List}
 use mathlib.Core.Path.{_≡_, refl, sym, _∙_, ap, ap₂}
@@ -20,8 +20,8 @@ use Rattle.slot.proofs.Logic.{and-intro, and-left, and-right, and-true, and-fal
 use Rattle.rules.specs.AreaRight.{zeros, marksRight, ignoringRight, flagsRight, unusedZero}
 use Rattle.rules.proofs.Zeros.{zeros-at}
 use Rattle.wellformed.specs.Slots.{Counted, Gathered, markedRight}
-use Rattle.wellformed.proofs.Chains.{stop, every-cut}
-use Rattle.wellformed.proofs.Tables.{or-false, take-tab, any-next}
+use Rattle.wellformed.proofs.Chains.{stop}
+use Rattle.wellformed.proofs.Tables.{or-false, take-tab, any-next, any-cut}
 
 -- bits: a bitwise or of two is a disjunction
 or-bit : (a b : ℕ) → a ≤ 1 → b ≤ 1 → (bitOr a b ≤ 1) × (eqb (bitOr a b) 1 ≡ (eqb a 1 or eqb b 1))
@@ -87,30 +87,31 @@ flag-zero (suc (suc x)) h = absurd (omega arith)
 pub record Known (l : List ℕ) (marks : ℕ) : Type 0 where
   pub counted : Counted l
   pub unused : unusedZero 8 l (slotOf 8 l) ≡ true
-  pub gathered : Gathered marks (getD l 3 0) l
+  pub gathered : Gathered marks 16 l
 
 module _ (l : List ℕ) (marks : ℕ) (known : Known l marks) where
-  -- the marks past the count are zero
-  past-zero : (i : ℕ) → getD l 3 0 ≤ i → i < 16 → getD l (21 + 6 * i + 1) 0 ≡ 0
-  unfolding unusedZero slotOf
-  past-zero i h b =
-      sym (getD-drop (21 + 6 * i) l 1 0)
-      ∙ zeros-at 6 (drop (21 + 6 * i) l)
+  -- no entry past the count is marked
+  past-unmarked : (i : ℕ) → getD l 3 0 ≤ i → i < 16 → readOf (drop (21 + 6 * i) l) .mark ≡ false
+  unfolding unusedZero slotOf readOf
+  past-unmarked i h b =
+      let zero : getD (drop (21 + 6 * i) l) 1 0 ≡ 0 =
+      zeros-at 6 (drop (21 + 6 * i) l)
       (or-right _ _ (le-ltb i (getD l 3 0) h)
       (every-at 16 (λ j. ltb j (getD l 3 0) or zeros 6 (drop (21 + 6 * j) l)) (and-left _ _ (known .unused)) i b))
-      1 (omega arith)
-
-  marks-fit : every 16 (λ i. leb (getD l (21 + 6 * i + 1) 0) 1) ≡ leb marks 1
-  marks-fit = every-cut 16 (getD l 3 0) (λ i. leb (getD l (21 + 6 * i + 1) 0) 1) (known .counted .reads) (λ i h b. rw (past-zero i h b)) ∙ sym (known .gathered .flags)
+      1 (omega arith) in
+      ne-eqb (getD (drop (21 + 6 * i) l) 1 0) 1 (λ e. omega arith)
 
   flags-fit : flagsRight 8 l ≡ (leb (getD l 1 0) 1 and leb marks 1)
   unfolding flagsRight
-  flags-fit = ap (λ (b : Bool). leb (getD l 1 0) 1 and b) marks-fit
+  flags-fit = ap (λ (b : Bool). leb (getD l 1 0) 1 and b) (sym (known .gathered .flags))
 
   some-set : marks ≤ 1 → someMarked (readLog (slotOf 8 l)) ≡ eqb marks 1
-  unfolding slotOf
+  unfolding someMarked slotOf
   some-set h =
-      ap someMarked (take-tab (λ i. readOf (drop (21 + 6 * i) l)) (getD l 3 0) 16 (known .counted .reads)) ∙ sym (known .gathered .some (le-leb marks 1 h))
+      let entry : ℕ → ReadEntry = λ i. readOf (drop (21 + 6 * i) l) in
+      ap someMarked (take-tab entry (getD l 3 0) 16 (known .counted .reads))
+      ∙ sym (any-cut entry (λ (e : ReadEntry). e .mark) (getD l 3 0) 16 (known .counted .reads) past-unmarked)
+      ∙ sym (known .gathered .some (le-leb marks 1 h))
 
   -- a flag or a mark above 1
   no-bit : flagsRight 8 l ≡ false → false ≡ markedRight l

@@ -8,7 +8,7 @@ use native.Mathlib.Omega.{arith}
 use borrow.Author.Tests.{lt-ltb, le-ltb, ltb-true, leb-true, eqb-true, eq-eqb, ne-eqb}
 use lib.Dec.{eqb, leb}
 use lib.ListN.{length, getD, drop}
-use lib.Seq.{drop-drop}
+use lib.Seq.{drop-drop, getD-drop}
 use Rattle.wire.specs.Field.{be}
 use Rattle.wire.proofs.Laws.Table.{length-tab, getD-tab}
 use Rattle.value.specs.Legal.{legalWord}
@@ -18,10 +18,11 @@ use Rattle.slot.proofs.Entry.{first-byte}
 use Rattle.rules.specs.Model.{controller}
 use Rattle.rules.specs.State.{noCell}
 use Rattle.rules.specs.Layout.{cellOf, cellsIn, countIn}
-use Rattle.rules.specs.LogsRight.{cellRight, loggedRight, cellCountRight}
+use Rattle.rules.specs.LogsRight.{loggedRight, cellCountRight}
 use Rattle.rules.specs.AreaRight.{lengthsAgree, versionRight}
 use Rattle.rules.proofs.Controller.{controller-length}
 use Rattle.wellformed.specs.Frame.{headerRight, Framed}
+use Rattle.wellformed.specs.Claims.{cellDue}
 use Rattle.wellformed.proofs.Chains.{stop, pass}
 
 -- the header's clauses, in their order
@@ -54,10 +55,11 @@ framed n l e p =
 pub own-frame : {n : ℕ} {l : List ℕ} → Framed n l → Framed (countIn l) l
 own-frame f = record { count = refl; size = omega arith; few = omega arith }
 
-pub cell-places : (clock at : ℕ) (l : List ℕ)
-    → (legalWord (getD l at 0) (be 4 (drop (at + 2) l)) and leb (be 8 (drop (at + 6) l)) clock) ≡ cellRight clock (cellOf 8 (drop at l))
-unfolding cellRight cellOf
-cell-places clock at l = rw (first-byte l at, ← drop-drop 2 at l, ← drop-drop 6 at l)
+pub cell-places : (clock due at : ℕ) (l : List ℕ)
+    → (eqb (getD l (at + 1) 0) due and leb (be 8 (drop (at + 6) l)) clock and legalWord (getD l at 0) (be 4 (drop (at + 2) l)))
+    ≡ cellDue clock due (cellOf 8 (drop at l))
+unfolding cellDue cellOf
+cell-places clock due at l = rw (first-byte l at, ← getD-drop at l 1 0, ← drop-drop 2 at l, ← drop-drop 6 at l)
 
 module _ (n : ℕ) (l : List ℕ) (f : Framed n l) where
   pub length-cells : length (cellsIn controller l) ≡ n

@@ -2,7 +2,8 @@
 use mathlib.Core.Bool.{Bool, true, false}
 use mathlib.Core.List.{List, [], _∷_, _++_}
 use mathlib.Core.Path.{_≡_, refl, sym, _∙_, ap, ap₂}
-use Prim.Native.Nat.{ℕ, zero, suc, _+_, _≤_}
+use Prim.Native.Nat.{ℕ, zero, suc, _+_, _-_, _<_, _≤_}
+use native.Mathlib.Nat.{add-zero, add-suc}
 use native.Mathlib.Numerals.{add-one}
 use native.Mathlib.Omega.{arith}
 use lib.ListN.{getD, take}
@@ -58,6 +59,19 @@ module _ {A : Type 0} where
     pub any-next : (p : A → Bool) (n : ℕ) → any p (tab (n + 1) g) ≡ (any p (tab n g) or p (g n))
     unfolding tab cat
     any-next p n = rw (add-one n) (any-snoc p (tab n g) (g n))
+
+    -- a test that fails from `k` on is decided below `k`
+    any-past : (p : A → Bool) (k m : ℕ) → ((i : ℕ) → k ≤ i → i < k + m → p (g i) ≡ false) → any p (tab (k + m) g) ≡ any p (tab k g)
+    unfolding tab cat
+    any-past p k zero f = rw add-zero
+    any-past p k (suc m) f =
+        let last : p (g (k + m)) ≡ false = f (k + m) (omega arith) (omega arith) in
+        rw add-suc (any-snoc p (tab (k + m) g) (g (k + m)) ∙ ap₂ _or_ (any-past p k m (λ i h b. f i h (omega arith))) last ∙ or-false _)
+
+    pub any-cut : (p : A → Bool) (k n : ℕ) → k ≤ n → ((i : ℕ) → k ≤ i → i < n → p (g i) ≡ false) → any p (tab n g) ≡ any p (tab k g)
+    any-cut p k n h f =
+        let whole : k + (n - k) ≡ n = omega arith in
+        ap (λ (x : ℕ). any p (tab x g)) (sym whole) ∙ any-past p k (n - k) (λ i a b. f i a (omega arith))
 
     pub pairwise-tab : (R : A → A → Bool) (n : ℕ) → pairwise R (tab n g) ≡ every n (λ j. every j (λ i. R (g i) (g j)))
     unfolding pairwise every tab cat

@@ -5,22 +5,23 @@ use mathlib.Core.Path.{_≡_, sym, _∙_, ap, ap₂}
 use Prim.Native.Nat.{ℕ, suc, _+_, _*_, _<_}
 use native.Mathlib.Numerals.{add-one}
 use lib.Dec.{eqb, leb}
-use lib.ListN.{getD}
+use lib.ListN.{getD, drop}
 use lib.Seq.{getD-drop}
 use Rattle.wire.proofs.Laws.Table.{getD-tab}
 use Rattle.slot.specs.Layout.{empty, slotOf}
 use Rattle.slot.specs.Logic.{_and_, same, every}
-use Rattle.slot.proofs.Logic.{every-ext}
+use Rattle.slot.proofs.Logic.{and-assoc, and-false, every-ext}
 use Rattle.rules.specs.Model.{controller}
 use Rattle.rules.specs.State.{noCell}
 use Rattle.rules.specs.Layout.{cellOf, countIn, cellsIn, slotPlace, recordsIn}
-use Rattle.rules.specs.LogsRight.{holdersRight}
+use Rattle.rules.specs.LogsRight.{cellRight, holdersRight}
 use Rattle.rules.specs.AreaRight.{recordHolds, areaHoldersRight}
-use Rattle.wellformed.specs.Frame.{Framed}
-use Rattle.wellformed.specs.Claims.{holderIn, Claimed}
-use Rattle.wellformed.proofs.Chains.{passes, fails, every-start, every-next}
+use Rattle.wellformed.specs.Frame.{Framed, cellsRight}
+use Rattle.wellformed.specs.Claims.{holderIn, Claimed, cellDue, cellsDue}
+use Rattle.wellformed.proofs.Chains.{passes, fails, and-comm, and-swap, every-start, every-next, every-and}
 use Rattle.wellformed.proofs.Places.{length-cells, cell-at}
-use Rattle.wellformed.proofs.Holders.{Due, claim, holders, due-start, due-next, holders-no, holders-due}
+use Rattle.wellformed.proofs.SlotLaws.{cells-all}
+use Rattle.wellformed.proofs.HolderLaws.{Due, claim, holders, due-start, due-next, holders-no, holders-due}
 
 -- the cells that slot k has to hold
 abbrev pub held : List ℕ → ℕ → ℕ → Bool
@@ -64,8 +65,10 @@ module _ (a : List ℕ) (f : Framed (countIn a) a) where
     here : Claimed a (held a k) (suc k) r before after
     here = rw (place, add-one k) at claimed
 
-    pub turn-wrong : k < 8 → not r ≡ true → false ≡ areaHoldersRight controller a
-    turn-wrong h p = holders-no (countIn a) (holderIn a) (held a) 8 k h (fails (here .right) p) ∙ holders-places
+    pub turn-wrong : k < 8 → not r ≡ true → (b : Bool) → false ≡ (b and areaHoldersRight controller a)
+    turn-wrong h p b =
+        let wrong : false ≡ areaHoldersRight controller a = holders-no (countIn a) (holderIn a) (held a) 8 k h (fails (here .right) p) ∙ holders-places in
+        sym (and-false b) ∙ ap (λ (x : Bool). b and x) wrong
 
     pub turn-right : not r ≡ false → Passed a k before → Passed a (k + 1) after
     turn-right p passed =
@@ -77,9 +80,17 @@ module _ (a : List ℕ) (f : Framed (countIn a) a) where
               (here .laid (here .right ∙ now));
         }
 
-  pub all-passed : (n : ℕ) → countIn a ≡ n → (due : List ℕ) → Passed a 8 due
-      → every n (λ c. eqb (holderIn a c) (getD due c 0)) ≡ areaHoldersRight controller a
-  all-passed n e due passed =
-      ap (λ (m : ℕ). every m (λ c. eqb (holderIn a c) (getD due c 0))) (sym e)
-      ∙ holders-due (countIn a) (holderIn a) (held a) 8 (λ c. getD due c 0) (passed .laid)
-      ∙ holders-places
+  -- all slots' claims: one test of each cell decides the cells and the holders
+  pub all-passed : (clock : ℕ) (due : List ℕ) → Passed a 8 due
+      → cellsDue clock due a (countIn a) ≡ (cellsRight clock a and areaHoldersRight controller a)
+  unfolding cellDue cellRight cellOf
+  all-passed clock due passed =
+      every-ext (countIn a) (λ c. cellDue clock (getD due c 0) (cellOf 8 (drop (14 + 14 * c) a)))
+      (λ c. cellRight clock (cellOf 8 (drop (14 + 14 * c) a)) and eqb (holderIn a c) (getD due c 0))
+      (λ c h. rw (← getD-drop (14 + 14 * c) a 1 0) (order _ _ _))
+      ∙ sym (every-and (countIn a) (λ c. cellRight clock (cellOf 8 (drop (14 + 14 * c) a))) (λ c. eqb (holderIn a c) (getD due c 0)))
+      ∙ ap₂ _and_ (cells-all (countIn a) a f clock)
+      (holders-due (countIn a) (holderIn a) (held a) 8 (λ c. getD due c 0) (passed .laid) ∙ holders-places)
+    where
+      order : (h s w : Bool) → (h and s and w) ≡ ((w and s) and h)
+      order h s w = simp (and-assoc, and-swap, and-comm)

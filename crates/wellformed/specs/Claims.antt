@@ -3,14 +3,16 @@ use mathlib.Core.Bool.{Bool, true, not, cond}
 use mathlib.Core.List.{List}
 use mathlib.Core.Path.{_≡_}
 use Prim.Native.Nat.{ℕ, _+_, _*_, _<_, _≤_}
-use lib.Dec.{eqb}
+use lib.Dec.{eqb, leb}
 use lib.ListN.{length, getD, drop}
 use Rattle.wire.specs.Table.{tab}
+use Rattle.value.specs.Legal.{legalWord}
 use Rattle.slot.specs.Layout.{writeOf}
-use Rattle.slot.specs.Logic.{_or_, every}
+use Rattle.slot.specs.Logic.{_and_, _or_, every}
 use Rattle.slot.specs.Logs.{writesCell}
 use Rattle.rules.specs.Model.{controller}
-use Rattle.rules.specs.Layout.{countIn, clockIn, cellsIn}
+use Rattle.rules.specs.declared.Cell.{Cell}
+use Rattle.rules.specs.Layout.{cellOf, countIn, clockIn, cellsIn}
 use Rattle.rules.specs.AreaRight.{slotPlaceRight}
 
 -- the holder's byte of cell c
@@ -41,3 +43,11 @@ pub record SlotRight (a l : List ℕ) : Type 0 where
 pub record Claimed (a : List ℕ) (H : ℕ → Bool) (slot : ℕ) (r : Bool) (before after : List ℕ) : Type 0 where
   pub right : r ≡ claimRight (countIn a) (holderIn a) H slot
   pub laid : r ≡ true → (c : ℕ) → c < countIn a → getD after c 0 ≡ cond (H c) slot (getD before c 0)
+
+-- a cell whose holder is the slot due to it, and that is right
+unfoldable pub cellDue : ℕ → ℕ → Cell → Bool
+cellDue clock due x = eqb (x .holder) due and leb (x .stamp) clock and legalWord (x .kind) (x .word)
+
+-- the first n cells of an area, with what is due to each
+abbrev pub cellsDue : ℕ → List ℕ → List ℕ → ℕ → Bool
+cellsDue clock due a n = every n (λ c. cellDue clock (getD due c 0) (cellOf 8 (drop (14 + 14 * c) a)))

@@ -7,7 +7,7 @@ use lib.ListN.{length, drop}
 use Rattle.wire.specs.Field.{be}
 use Rattle.slot.specs.Logic.{_and_, every, all}
 use Rattle.rules.specs.Model.{controller}
-use Rattle.rules.specs.Layout.{countIn, clockIn, cellsIn, slotPlace, recordsIn}
+use Rattle.rules.specs.Layout.{countIn, cellsIn, slotPlace, recordsIn}
 use Rattle.rules.specs.AreaRight.{lengthsAgree, versionRight, slotPlaceRight, commitsApart}
 use Rattle.rules.specs.LogsRight.{cellCountRight, cellRight}
 
@@ -28,9 +28,9 @@ cellsRight clock a = all (cellRight clock) (cellsIn controller a)
 abbrev pub slotsRight : ℕ → List ℕ → Bool
 slotsRight clock a = every 8 (λ k. slotPlaceRight controller (cellsIn controller a) clock (slotPlace controller a k))
 
--- the sentences on cells, slots and commit stamps
-unfoldable pub partsRight : List ℕ → Bool
-partsRight a = cellsRight (clockIn controller a) a and slotsRight (clockIn controller a) a and commitsApart (recordsIn controller a)
+-- the sentences on slots and commit stamps
+unfoldable pub partsRight : ℕ → List ℕ → Bool
+partsRight clock a = slotsRight clock a and commitsApart (recordsIn controller a)
 
 -- the commit stamp of slot k, counted from 0, in an area of n cells
 abbrev pub stampIn : ℕ → List ℕ → ℕ → ℕ

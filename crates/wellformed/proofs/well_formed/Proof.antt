@@ -1,50 +1,90 @@
--- All but the holders, then the holders.
-use mathlib.Core.Path.{refl, sym, _∙_}
+-- The header's clauses, those of the slots and the commit stamps, then those of the cells and the holders, at the count and the clock that the header has.
+use mathlib.Core.Path.{refl, _∙_, ap}
+use Prim.Native.Nat.{ℕ}
 use native.Mathlib.Omega.{arith}
 use borrow.Author.Needs.{needs}
-use Rattle.rules.specs.AreaRight.{wellFormed}
-use Rattle.wellformed.proofs.Chains.{pass, stop}
-use Rattle.wellformed.proofs.Slots.{area-framed}
+use Rattle.slot.specs.Logic.{_and_}
+use Rattle.slot.proofs.Logic.{and-left}
+use Rattle.rules.specs.Model.{controller}
+use Rattle.rules.specs.AreaRight.{areaHoldersRight}
+use Rattle.wellformed.specs.Frame.{cellsRight, partsRight}
+use Rattle.wellformed.proofs.Chains.{pass, stop, passes, fails}
+use Rattle.wellformed.proofs.Places.{framed}
+use Rattle.wellformed.proofs.SlotLaws.{in-order}
 use Rattle.wellformed.proofs.well_formed.Statement.{statement}
 use Rattle.wellformed.proofs.well_formed.Tie as tie
 
-right-but-holders-requires : tie.Need-right-but-holders-requires
-right-but-holders-requires c κs = search needs
+header-right-requires : tie.Need-header-right-requires
+header-right-requires c κs = search needs
+
+returns : tie.Need-returns
+returns c =
+    let args = c .before .before .before .args in
+    stop _ _ _ (fails (c .before .header-right .ensures) (c .if1 .taken)) refl ∙ in-order (args .s .now)
 
 shared-slice-read-index : tie.Need-shared-slice-read-index
 shared-slice-read-index c =
     let args = c .before .before .before .before .args in
-    let right-but-holders = c .before .before .right-but-holders in
-    let f = area-framed _ (args .s .now) refl (sym (right-but-holders .ensures) ∙ c .before .if1 .taken) in omega arith
+    let f = framed _ (args .s .now) refl (passes (c .before .before .header-right .ensures) (c .before .if1 .left)) in omega arith
 
 index-requires : tie.Need-index-requires
 index-requires c κs = search needs
 
-holders-right-requires : tie.Need-holders-right-requires
-holders-right-requires c κs =
+get-requires : tie.Need-get-requires
+get-requires c κs =
     let args = c .before .before .before .before .before .args in
-    let right-but-holders = c .before .before .before .right-but-holders in
-    let if1 = c .before .before .if1 .taken in
-    (area-framed _ (args .s .now) (c .index .ensures .0) (sym (right-but-holders .ensures) ∙ if1), sym (right-but-holders .ensures) ∙ if1)
+    let f = framed _ (args .s .now) refl (passes (c .before .before .before .header-right .ensures) (c .before .before .if1 .left)) in omega arith
 
-returns : tie.Need-returns
-unfolding wellFormed
-returns c =
-    let right-but-holders = c .before .before .before .before .right-but-holders in
-    let if1 = c .before .before .before .if1 .taken in
-    pass _ _ _ (sym (right-but-holders .ensures) ∙ if1) (c .holders-right .ensures)
+parts-right-requires : tie.Need-parts-right-requires
+parts-right-requires c κs =
+    let args = c .before .before .before .before .before .before .args in
+    let header = passes (c .before .before .before .before .header-right .ensures) (c .before .before .before .if1 .left) in
+    framed _ (args .s .now) (c .before .index .ensures .0) header
 
 returns-2 : tie.Need-returns-2
-unfolding wellFormed
-returns-2 c = stop _ _ _ (sym (c .before .right-but-holders .ensures) ∙ c .if1 .left) (c .if1 .left)
+returns-2 c =
+    let args = c .before .before .before .before .before .before .before .before .args in
+    let get = c .before .before .get in
+    let l = args .s .now in
+    let header = passes (c .before .before .before .before .before .before .header-right .ensures) (c .before .before .before .before .before .if1 .left) in
+    pass _ _ _ header
+    (stop _ _ _ (fails (c .before .parts-right .ensures ∙ ap (λ (k : ℕ). partsRight k l) (get .ensures)) (c .if2 .taken)) refl)
+    ∙ in-order l
+
+cells-held-requires : tie.Need-cells-held-requires
+unfolding partsRight
+cells-held-requires c κs =
+    let args = c .before .before .before .before .before .before .before .before .args in
+    let get = c .before .before .get in
+    let index = c .before .before .before .index in
+    let l = args .s .now in
+    let header = passes (c .before .before .before .before .before .before .header-right .ensures) (c .before .before .before .before .before .if1 .left) in (
+      framed _ l (index .ensures .0) header,
+      and-left _ _ (passes (c .before .parts-right .ensures ∙ ap (λ (k : ℕ). partsRight k l) (get .ensures)) (c .if2 .left)),
+    )
+
+returns-3 : tie.Need-returns-3
+returns-3 c =
+    let args = c .before .before .before .before .before .before .before .before .before .args in
+    let get = c .before .before .before .get in
+    let l = args .s .now in
+    let header = passes (c .before .before .before .before .before .before .before .header-right .ensures) (c .before .before .before .before .before .before .if1 .left) in
+    let parts = passes (c .before .before .parts-right .ensures ∙ ap (λ (k : ℕ). partsRight k l) (get .ensures)) (c .before .if2 .left) in
+    pass _ _ _ header
+    (pass _ _ _ parts
+    (c .cells-held .ensures ∙ ap (λ (k : ℕ). cellsRight k l and areaHoldersRight controller l) (get .ensures)))
+    ∙ in-order l
 
 pub well-formed-spec : {M : Type 1} → statement M
 well-formed-spec =
     tie.close
     (tie.spec
-    right-but-holders-requires
+    header-right-requires
+    returns
     shared-slice-read-index
     index-requires
-    holders-right-requires
-    returns
-    returns-2)
+    get-requires
+    parts-right-requires
+    returns-2
+    cells-held-requires
+    returns-3)

@@ -1,0 +1,24 @@
+-- Both logs, in the order of the clause.
+use mathlib.Core.Path.{sym, _∙_}
+use borrow.Author.Needs.{needs}
+use Rattle.wellformed.specs.Slots.{logsRight}
+use Rattle.wellformed.proofs.Chains.{pass, stop}
+use Rattle.wellformed.proofs.logs.logs_right.Statement.{statement}
+use Rattle.wellformed.proofs.logs.logs_right.Tie as tie
+
+reads-right-requires : tie.Need-reads-right-requires
+reads-right-requires c κs = search needs
+
+writes-right-requires : tie.Need-writes-right-requires
+writes-right-requires c κs = search needs
+
+returns : tie.Need-returns
+unfolding logsRight
+returns c = pass _ _ _ (sym (c .before .before .reads-right .ensures) ∙ c .before .if1 .taken) (c .writes-right .ensures)
+
+returns-2 : tie.Need-returns-2
+unfolding logsRight
+returns-2 c = stop _ _ _ (sym (c .before .reads-right .ensures) ∙ c .if1 .left) (c .if1 .left)
+
+pub logs-right-spec : {M : Type 1} → statement M
+logs-right-spec = tie.close (tie.spec reads-right-requires writes-right-requires returns returns-2)

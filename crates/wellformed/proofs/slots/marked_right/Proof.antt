@@ -1,0 +1,69 @@
+-- The marks are gathered, and each return is what the clauses say of them.
+use mathlib.Core.Bool.{not}
+use mathlib.Core.Path.{refl, _∙_, ap}
+use borrow.Author.Tests.{eq-eqb, ne-eqb, le-leb, lt-leb}
+use borrow.Author.Needs.{needs}
+use Rattle.wellformed.proofs.Chains.{pass, stop, or-yes, or-no}
+use Rattle.wellformed.proofs.Marks.{Known, marks-over, flag-over, no-mark, some-mark}
+use Rattle.wellformed.proofs.slots.marked_right.Statement.{statement}
+use Rattle.wellformed.proofs.slots.marked_right.Tie as tie
+
+known : (c : tie.After-marks-of) → Known (c .before .before .args .t .now) (c .marks-of .result)
+known c =
+    let pre = c .before .before .pre in
+    record { counted = pre .0; unused = pre .1; gathered = c .marks-of .ensures }
+
+marks-of-requires : tie.Need-marks-of-requires
+marks-of-requires c κs = search needs
+
+shared-slice-read-flag : tie.Need-shared-slice-read-flag
+shared-slice-read-flag c = search needs
+
+returns : tie.Need-returns
+returns c = marks-over _ _ (known (c .before .before)) (c .if1 .taken)
+
+returns-2 : tie.Need-returns-2
+returns-2 c = flag-over _ _ (known (c .before .before .before)) (c .if2 .taken)
+
+returns-3 : tie.Need-returns-3
+returns-3 c = no-mark _ _ (known (c .before .before .before .before)) (c .before .before .if1 .left) (c .before .if2 .left) (c .if3 .taken)
+
+shared-slice-read-phase : tie.Need-shared-slice-read-phase
+shared-slice-read-phase c = search needs
+
+returns-4 : tie.Need-returns-4
+returns-4 c =
+    let if1 = c .before .before .before .before .if1 .left in
+    let if2 = c .before .before .before .if2 .left in
+    let if3 = c .before .before .if3 .left in
+    stop _ _ _ (lt-leb _ _ (c .if4 .taken)) refl ∙ some-mark _ _ (known (c .before .before .before .before .before .before)) if1 if2 if3
+
+returns-5 : tie.Need-returns-5
+returns-5 c =
+    let if1 = c .before .before .before .before .before .if1 .left in
+    let if2 = c .before .before .before .before .if2 .left in
+    let if3 = c .before .before .before .if3 .left in
+    pass _ _ _ (le-leb _ _ (c .before .if4 .left)) (or-yes _ _ (ap not (ne-eqb _ _ (c .if5 .taken))))
+    ∙ some-mark _ _ (known (c .before .before .before .before .before .before .before)) if1 if2 if3
+
+returns-6 : tie.Need-returns-6
+returns-6 c =
+    let if1 = c .before .before .before .before .before .if1 .left in
+    let if2 = c .before .before .before .before .if2 .left in
+    let if3 = c .before .before .before .if3 .left in
+    pass _ _ _ (le-leb _ _ (c .before .if4 .left)) (or-no _ _ (ap not (eq-eqb _ _ (c .if5 .left))))
+    ∙ some-mark _ _ (known (c .before .before .before .before .before .before .before)) if1 if2 if3
+
+pub marked-right-spec : {M : Type 1} → statement M
+marked-right-spec =
+    tie.close
+    (tie.spec
+    marks-of-requires
+    shared-slice-read-flag
+    returns
+    returns-2
+    returns-3
+    shared-slice-read-phase
+    returns-4
+    returns-5
+    returns-6)

@@ -1,0 +1,82 @@
+-- Before each turn the slots passed are right.
+use mathlib.Core.Bool.{Bool, true}
+use mathlib.Core.List.{List}
+use mathlib.Core.Path.{_≡_, _∙_, ap}
+use Prim.Native.Nat.{ℕ, _-_, _≤_}
+use native.Mathlib.Omega.{arith}
+use Rattle.slot.specs.Logic.{every}
+use Rattle.rules.specs.Model.{controller}
+use Rattle.rules.specs.Layout.{cellsIn, slotPlace}
+use Rattle.rules.specs.AreaRight.{slotPlaceRight}
+use Rattle.wellformed.proofs.Chains.{passes, fails, every-start, every-next, every-no, every-yes}
+use Rattle.wellformed.proofs.SlotLaws.{place-size}
+use Rattle.wellformed.proofs.slots.slots_right.Statement.{statement}
+use Rattle.wellformed.proofs.slots.slots_right.Tie as tie
+
+abbrev right : List ℕ → ℕ → ℕ → Bool
+right l clock k = slotPlaceRight controller (cellsIn controller l) clock (slotPlace controller l k)
+
+abbrev Inv-loop : tie.InvT-loop
+Inv-loop s n clock k₀ k = (k ≤ 8) × (every k (right s clock) ≡ true)
+
+abbrev μ-loop : tie.MeasureT-loop
+μ-loop s n clock k₀ k = 8 - k
+
+loop-holds : tie.Need-loop-holds Inv-loop μ-loop
+loop-holds c = (omega arith, every-start _)
+
+slot-place-requires : tie.Need-slot-place-requires Inv-loop μ-loop
+slot-place-requires c κs = (c .before .before .before .pre, omega arith)
+
+slot-right-requires : tie.Need-slot-right-requires Inv-loop μ-loop
+slot-right-requires c κs =
+    let args = c .before .before .before .before .args in
+    let pre = c .before .before .before .before .pre in
+    let loop = c .before .before .loop in
+    let slot-place = c .slot-place in
+    (pre, place-size (args .n) (args .s .now) pre (loop .k) (omega arith) (slot-place .result .now) (slot-place .ensures))
+
+returns : tie.Need-returns Inv-loop μ-loop
+returns c =
+    let args = c .before .before .before .before .before .before .args in
+    let loop = c .before .before .before .before .loop in
+    let slot-place = c .before .before .slot-place in
+    every-no 8 (right (args .s .now) (args .clock)) (loop .k) (omega arith)
+    (fails (c .before .slot-right .ensures ∙ ap (slotPlaceRight controller (cellsIn controller (args .s .now)) (args .clock)) (slot-place .ensures)) (c .if1 .taken))
+
+add-k : tie.Need-add-k Inv-loop μ-loop
+add-k c = omega arith
+
+loop-less : tie.Need-loop-less Inv-loop μ-loop
+loop-less c = omega arith
+
+loop-again : tie.Need-loop-again Inv-loop μ-loop
+loop-again c =
+    let args = c .before .before .before .before .before .before .args in
+    let loop = c .before .before .before .before .loop in
+    let slot-place = c .before .before .slot-place in (
+      omega arith,
+      every-next (right (args .s .now) (args .clock)) (loop .k) (loop .inv .1)
+          (passes (c .before .slot-right .ensures ∙ ap (slotPlaceRight controller (cellsIn controller (args .s .now)) (args .clock)) (slot-place .ensures)) (c .if1 .left)),
+    )
+
+returns-2 : tie.Need-returns-2 Inv-loop μ-loop
+returns-2 c =
+    let args = c .before .before .before .args in
+    let loop = c .before .loop in
+    every-yes 8 (right (args .s .now) (args .clock)) (loop .k) (omega arith) (loop .inv .1)
+
+pub slots-right-spec : {M : Type 1} → statement M
+slots-right-spec =
+    tie.close
+    (tie.spec
+    Inv-loop
+    μ-loop
+    loop-holds
+    slot-place-requires
+    slot-right-requires
+    returns
+    add-k
+    loop-less
+    loop-again
+    returns-2)
