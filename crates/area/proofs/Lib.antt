@@ -1,6 +1,8 @@
 pub mod Good
+pub mod SlotRead
 pub mod Sweep
 pub mod Scan
+pub mod Fill
 pub mod Stored
 pub mod Logged
 pub mod Laid

@@ -1,11 +1,10 @@
 -- The read log of a slot of a good area: it has at most 16 entries, each of a cell of the area, since the slot's logs are right.
 use mathlib.Core.Bool.{true}
-use mathlib.Core.List.{List, map}
-use mathlib.Core.Path.{_≡_, refl, sym, ap, _∙_}
+use mathlib.Core.List.{List}
+use mathlib.Core.Path.{_≡_, refl, ap, _∙_}
 use Prim.Native.Nat.{ℕ, _-_, _≤_, _<_}
 use native.Mathlib.Omega.{arith}
-use lib.ListN.{length, getD, take, drop, replicate, length-map, List·getD-append}
-use lib.Seq.{length-take-le, drop-at}
+use lib.ListN.{length, getD, replicate, List·getD-append}
 use borrow.Author.Tests.{ltb-true}
 use Rattle.slot.specs.declared.ReadEntry.{ReadEntry}
 use Rattle.slot.specs.declared.SlotRecord.{SlotRecord}
@@ -17,24 +16,18 @@ use Rattle.rules.specs.Model.{controller}
 use Rattle.rules.specs.State.{Slot, idle, opened, locking, twilight, publishing, readsOf, slotAt}
 use Rattle.rules.specs.LogsRight.{loggedRight, readsRight}
 use Rattle.rules.specs.StateRight.{slotRight, stateRightButHolders}
-use Rattle.rules.specs.Layout.{lay}
+use Rattle.rules.specs.Layout.{countIn, lay}
 use Rattle.rules.specs.declared.Cell.{Cell}
-use Rattle.rules.proofs.LayView.{read-log}
 use Rattle.rules.proofs.StateSized.{LogsHold, logs-hold}
 use Rattle.rules.proofs.RoundTrip.{state-right, state-but-holders}
 use Rattle.rules.proofs.AreaRead.{count-read, slots-read}
 use Rattle.area.specs.Good.{Good, stateIn}
-use Rattle.area.specs.Reload.{Logged}
-use Rattle.area.proofs.Sweep.{sweep}
 
--- all entries of a padded log changed: those past the count are zero as before
-pub swept-log : (f : ReadEntry → ReadEntry) (l : List ReadEntry) (n : ℕ) → length l ≡ 16 → n ≤ 16 → l ≡ paddedReads (take n l)
-    → sweep f noRead l n ≡ paddedReads (map f (take n l))
-swept-log f l n whole most padded =
-    let count : length (take n l) ≡ n = length-take-le n l (omega arith) in
-    let rest : drop n l ≡ replicate (16 - length (take n l)) noRead =
-    ap (drop n) padded ∙ drop-at (take n l) (replicate (16 - length (take n l)) noRead) n count in
-    rw (rest, length-map)
+-- the read log of v: at most 16 entries, each of a cell of the area
+pub record Logged (l : List ℕ) (v : SlotRecord) : Type 0 where
+  pub whole : length (v .reads) ≡ 16
+  pub most : v .readcount ≤ 16
+  pub inside : (k : ℕ) → k < v .readcount → getD (v .reads) k noRead .cell < countIn l
 
 -- a slot's record has its read log, padded
 reads-laid : (x : Slot) → lay x .reads ≡ paddedReads (readsOf x)
@@ -74,7 +67,7 @@ module _ (cells : List Cell) (clock : ℕ) where
   reads-hold (publishing ignoring taken start commit reads writes) p = from-logs (logs-hold cells clock start reads writes (and-left _ _ p))
 
 -- each slot of a good area is right
-slot-holds : (l : List ℕ) → Good l → (i : ℕ) → i < 8 → slotRight (stateIn l .cells) (stateIn l .clock) (slotAt (stateIn l) i) ≡ true
+pub slot-holds : (l : List ℕ) → Good l → (i : ℕ) → i < 8 → slotRight (stateIn l .cells) (stateIn l .clock) (slotAt (stateIn l) i) ≡ true
 unfolding stateRightButHolders
 slot-holds l good i h =
     let right = state-but-holders controller (stateIn l) (state-right controller l (good .bytes) (good .right)) in
@@ -90,7 +83,6 @@ logged-laid l x holds =
       inside = λ k b.
           let below : k < length (readsOf x) = rw (count-laid x) at b in
           rw (reads-laid x, List·getD-append (readsOf x) (replicate (16 - length (readsOf x)) noRead) noRead k below, ← count-read controller l) (holds .inside k below);
-      padded = reads-laid x ∙ ap paddedReads (sym (read-log x));
     }
 
 -- what `slot_at` gives of a good area

@@ -1,16 +1,25 @@
 -- Each public function's contract leaves one answer: it says that the answer, or the area at exit, is one value.
+use mathlib.Core.Bool.{Bool}
 use mathlib.Core.List.{List}
 use mathlib.Core.Path.{_≡_}
 use Prim.Native.Nat.{ℕ}
+use lib.ListN.{getD}
 use Rattle.wire.proofs.Unique.{unique}
 use Rattle.slot.specs.declared.ReadEntry.{ReadEntry}
+use Rattle.slot.specs.declared.ReadFound.{ReadFound}
 use Rattle.slot.specs.declared.SlotRecord.{SlotRecord}
-use Rattle.rules.specs.State.{cellCount, cellAt, slotAt}
-use Rattle.rules.specs.Layout.{lay}
+use Rattle.slot.specs.declared.WriteEntry.{WriteEntry}
+use Rattle.slot.specs.declared.WriteFound.{WriteFound}
+use Rattle.slot.specs.Fields.{fieldsOf, withoutReads}
+use Rattle.slot.specs.Layout.{noWrite}
+use Rattle.slot.specs.Logs.{readLog, writeLog, readEntry, writeEntry, someMarked}
+use Rattle.slot.specs.Operations.{readFound, writeFound}
+use Rattle.rules.specs.Cells.{heldByOther}
+use Rattle.rules.specs.State.{cellCount, cellAt}
 use Rattle.rules.specs.declared.Cell.{Cell}
 use Rattle.area.specs.declared.Obstacle.{Obstacle}
 use Rattle.area.specs.Good.{stateIn}
-use Rattle.area.specs.Reload.{markedReads, reloadedReads, obstacleIn}
+use Rattle.area.specs.Reload.{recordAt, markedReads, reloadedReads, obstacleIn}
 use Rattle.area.specs.Stores.{slotStored, slotCellStored, slotClockStored, slotFreedStored}
 use Rattle.area.specs.Laid.{Laid}
 
@@ -24,30 +33,54 @@ module _ (l : List ℕ) where
   pub cell-at-unique : (c : ℕ) (r₁ r₂ : Cell) → r₁ ≡ cellAt (stateIn l) c → r₂ ≡ cellAt (stateIn l) c → r₁ ≡ r₂
   cell-at-unique c r₁ r₂ = unique
 
-  pub slot-at-unique : (i : ℕ) (r₁ r₂ : SlotRecord) → r₁ ≡ lay (slotAt (stateIn l) i) → r₂ ≡ lay (slotAt (stateIn l) i) → r₁ ≡ r₂
-  slot-at-unique i r₁ r₂ = unique
+  module _ (i : ℕ) where
+    pub phase-at-unique : (r₁ r₂ : ℕ) → r₁ ≡ recordAt l i .phase → r₂ ≡ recordAt l i .phase → r₁ ≡ r₂
+    phase-at-unique r₁ r₂ = unique
 
-  pub reloaded-reads-unique : (v : SlotRecord) (r₁ r₂ : List ReadEntry) → r₁ ≡ reloadedReads l v → r₂ ≡ reloadedReads l v → r₁ ≡ r₂
-  reloaded-reads-unique v r₁ r₂ = unique
+    pub fields-at-unique : (r₁ r₂ : SlotRecord) → r₁ ≡ fieldsOf (recordAt l i) → r₂ ≡ fieldsOf (recordAt l i) → r₁ ≡ r₂
+    fields-at-unique r₁ r₂ = unique
 
-  module _ (i : ℕ) (v : SlotRecord) where
-    pub marked-reads-unique : (r₁ r₂ : List ReadEntry) → r₁ ≡ markedReads l i v → r₂ ≡ markedReads l i v → r₁ ≡ r₂
+    pub writes-at-unique : (r₁ r₂ : SlotRecord) → r₁ ≡ withoutReads (recordAt l i) → r₂ ≡ withoutReads (recordAt l i) → r₁ ≡ r₂
+    writes-at-unique r₁ r₂ = unique
+
+    pub write-at-unique : (k : ℕ) (r₁ r₂ : WriteEntry) → r₁ ≡ getD (recordAt l i .writes) k noWrite → r₂ ≡ getD (recordAt l i .writes) k noWrite → r₁ ≡ r₂
+    write-at-unique k r₁ r₂ = unique
+
+    pub find-read-unique : (c : ℕ) (r₁ r₂ : ReadFound) → r₁ ≡ readFound (readEntry (readLog (recordAt l i)) c) → r₂ ≡ readFound (readEntry (readLog (recordAt l i)) c) → r₁ ≡ r₂
+    find-read-unique c r₁ r₂ = unique
+
+    pub find-write-unique : (c : ℕ) (r₁ r₂ : WriteFound) → r₁ ≡ writeFound (writeEntry (writeLog (recordAt l i)) c) → r₂ ≡ writeFound (writeEntry (writeLog (recordAt l i)) c)
+        → r₁ ≡ r₂
+    find-write-unique c r₁ r₂ = unique
+
+    pub some-marked-unique : (r₁ r₂ : Bool) → r₁ ≡ someMarked (readLog (recordAt l i)) → r₂ ≡ someMarked (readLog (recordAt l i)) → r₁ ≡ r₂
+    some-marked-unique r₁ r₂ = unique
+
+    pub reloaded-reads-unique : (r₁ r₂ : List ReadEntry) → r₁ ≡ reloadedReads l i → r₂ ≡ reloadedReads l i → r₁ ≡ r₂
+    reloaded-reads-unique r₁ r₂ = unique
+
+    pub marked-reads-unique : (r₁ r₂ : List ReadEntry) → r₁ ≡ markedReads l i → r₂ ≡ markedReads l i → r₁ ≡ r₂
     marked-reads-unique r₁ r₂ = unique
 
-    pub first-obstacle-unique : (r₁ r₂ : Obstacle) → r₁ ≡ obstacleIn l i v → r₂ ≡ obstacleIn l i v → r₁ ≡ r₂
+    pub first-obstacle-unique : (r₁ r₂ : Obstacle) → r₁ ≡ obstacleIn l i → r₂ ≡ obstacleIn l i → r₁ ≡ r₂
     first-obstacle-unique r₁ r₂ = unique
 
-    pub store-slot-unique : (s₁ s₂ : List ℕ) → s₁ ≡ slotStored l i v → s₂ ≡ slotStored l i v → s₁ ≡ s₂
-    store-slot-unique s₁ s₂ = unique
+    -- the stores: whichever record they put
+    module _ (v : SlotRecord) where
+      pub slot-stored-unique : (s₁ s₂ : List ℕ) → s₁ ≡ slotStored l i v → s₂ ≡ slotStored l i v → s₁ ≡ s₂
+      slot-stored-unique s₁ s₂ = unique
 
-    pub store-slot-cell-unique : (c : ℕ) (x : Cell) (s₁ s₂ : List ℕ) → s₁ ≡ slotCellStored l i v c x → s₂ ≡ slotCellStored l i v c x → s₁ ≡ s₂
-    store-slot-cell-unique c x s₁ s₂ = unique
+      pub slot-cell-stored-unique : (c : ℕ) (x : Cell) (s₁ s₂ : List ℕ) → s₁ ≡ slotCellStored l i v c x → s₂ ≡ slotCellStored l i v c x → s₁ ≡ s₂
+      slot-cell-stored-unique c x s₁ s₂ = unique
 
-    pub store-slot-clock-unique : (clock : ℕ) (s₁ s₂ : List ℕ) → s₁ ≡ slotClockStored l i v clock → s₂ ≡ slotClockStored l i v clock → s₁ ≡ s₂
-    store-slot-clock-unique clock s₁ s₂ = unique
+      pub slot-clock-stored-unique : (clock : ℕ) (s₁ s₂ : List ℕ) → s₁ ≡ slotClockStored l i v clock → s₂ ≡ slotClockStored l i v clock → s₁ ≡ s₂
+      slot-clock-stored-unique clock s₁ s₂ = unique
 
-    pub store-slot-freed-unique : (s₁ s₂ : List ℕ) → s₁ ≡ slotFreedStored l i v → s₂ ≡ slotFreedStored l i v → s₁ ≡ s₂
-    store-slot-freed-unique s₁ s₂ = unique
+      pub slot-freed-stored-unique : (s₁ s₂ : List ℕ) → s₁ ≡ slotFreedStored l i v → s₂ ≡ slotFreedStored l i v → s₁ ≡ s₂
+      slot-freed-stored-unique s₁ s₂ = unique
+
+  pub held-by-other-unique : (i : ℕ) (x : Cell) (r₁ r₂ : Bool) → r₁ ≡ heldByOther i x → r₂ ≡ heldByOther i x → r₁ ≡ r₂
+  held-by-other-unique i x r₁ r₂ = unique
 
   pub lay-out-unique : (ds : List ℕ) (r₁ r₂ : ℕ) (s₁ s₂ : List ℕ) → Laid l ds r₁ s₁ → Laid l ds r₂ s₂ → (r₁ ≡ r₂) × (s₁ ≡ s₂)
   lay-out-unique ds r₁ r₂ s₁ s₂ p q = (unique (p .code) (q .code), unique (p .bytes) (q .bytes))

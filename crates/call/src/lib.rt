@@ -98,7 +98,7 @@ fn update_of(cell: u8, kind: u8, word: u32) -> Decoded
 }
 
 impl Reply {
-    pub fn code(self) -> u8
+    fn code(self) -> u8
         ensures { λ r. ⌜ r ≡ replyCode self ⌝ }
     {
         match self {
@@ -123,7 +123,7 @@ impl Reply {
         }
     }
 
-    pub fn kind(self) -> u8
+    fn kind(self) -> u8
         ensures { λ r. ⌜ r ≡ replyKind self ⌝ }
     {
         match self {
@@ -133,7 +133,7 @@ impl Reply {
         }
     }
 
-    pub fn word(self) -> u32
+    fn word(self) -> u32
         ensures { λ r. ⌜ r ≡ replyWord self ⌝ }
     {
         match self {

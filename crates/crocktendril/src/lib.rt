@@ -2,6 +2,7 @@
 // slices are what they say.
 ghost use Rattle.rules.specs.Run.{call};
 ghost use Rattle.crocktendril.specs.Contract.{Stepped, LaidOut};
+use area::fresh;
 use call::Reply;
 
 // Makes one step. Answers code × 2^40 + kind × 2^32 + word.
@@ -28,5 +29,5 @@ pub extern "C" fn crocktendril_step(
 pub extern "C" fn crocktendril_lay_out(s: &mut [u8], descriptions: &[u8]) -> u64
     ensures { λ r. ⌜ LaidOut (now (s .entry)) (now (descriptions .entry)) r (now (s .exit)) ⌝ }
 {
-    area::lay_out(s, descriptions) as u64
+    fresh::lay_out(s, descriptions) as u64
 }

@@ -1,2 +1,3 @@
 -- The laws of the operations, for those who call them.
 pub mod Operations
+pub mod Fields

@@ -1,8 +1,11 @@
 pub mod Entry
+pub mod Offset
+pub mod Parts
+pub mod Zero
 pub mod RoundTrip
 pub mod Unique
 pub mod Logic
 pub mod Search
 pub mod Padding
-pub mod Insert
+pub mod Carry
 pub mod Laws

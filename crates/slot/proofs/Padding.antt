@@ -3,8 +3,8 @@ use mathlib.Core.List.{List, [], _∷_, _++_}
 use mathlib.Core.Path.{_≡_, sym, ap, _∙_}
 use Prim.Native.Nat.{ℕ, suc, _+_, _-_, _<_, _≤_}
 use native.Mathlib.Omega.{arith}
-use lib.ListN.{length, getD, take, drop, set, replicate, length-append, length-drop, length-set, length-replicate, getD-replicate, take-append-drop}
-use lib.Seq.{length-take-le, ext-getD, getD-drop, getD-append-add, drop-append-add, set-append-left, set-append-seam, append-snoc}
+use lib.ListN.{length, getD, take, drop, set, replicate, length-append, length-drop, length-replicate, getD-replicate, take-append-drop}
+use lib.Seq.{length-take-le, ext-getD, getD-drop, getD-append-add, drop-append-add, set-append-seam, append-snoc}
 
 module _ {A : Type 0} (d : A) where
   -- a padded log has all of its entries
@@ -29,10 +29,6 @@ module _ {A : Type 0} (d : A) where
       let below : i < n - k = rw length-replicate at b in
       getD-replicate (n - k) i d d below ∙ sym (getD-drop k l i d ∙ zero (k + i) (omega arith) (omega arith))) in
       rw (cut, zeros) (take-append-drop k l)
-
-  -- an entry replaced in the log is replaced in the array
-  pub padded-set : (l : List A) (n i : ℕ) (e : A) → i < length l → set (l ++ replicate (n - length l) d) i e ≡ set l i e ++ replicate (n - length (set l i e)) d
-  padded-set l n i e h = rw (length-set l i e) (set-append-left l (replicate (n - length l) d) i e h)
 
   -- the entry after the log's last one takes the place of the first unused entry
   pub padded-next : (l : List A) (n : ℕ) (e : A) → length l < n

@@ -93,10 +93,16 @@ slotOf width l =
       writes = tab writeCapacity (λ i. writeOf (drop (writesAt width + writeSize * i) l));
     }
 
+-- the bytes of all but the logs
+abbrev pub fieldBytes : ℕ → SlotRecord → List ℕ
+fieldBytes width v = (v .phase ∷ bit (v .ignoring) ∷ v .taken ∷ v .readcount ∷ v .writecount ∷ []) ++ toBe width (v .start) ++ toBe width (v .commit)
+
+-- the bytes of each log
+abbrev pub readLogBytes : List ReadEntry → List ℕ
+readLogBytes reads = cat readCapacity (λ i. readBytes (getD reads i noRead))
+
+abbrev pub writeLogBytes : List WriteEntry → List ℕ
+writeLogBytes writes = cat writeCapacity (λ i. writeBytes (getD writes i noWrite))
+
 unfoldable pub slotBytes : ℕ → SlotRecord → List ℕ
-slotBytes width v =
-    (v .phase ∷ bit (v .ignoring) ∷ v .taken ∷ v .readcount ∷ v .writecount ∷ [])
-    ++ toBe width (v .start)
-    ++ toBe width (v .commit)
-    ++ cat readCapacity (λ i. readBytes (getD (v .reads) i noRead))
-    ++ cat writeCapacity (λ i. writeBytes (getD (v .writes) i noWrite))
+slotBytes width v = fieldBytes width v ++ readLogBytes (v .reads) ++ writeLogBytes (v .writes)

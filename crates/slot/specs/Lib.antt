@@ -3,3 +3,4 @@ pub mod Layout
 pub mod Fit
 pub mod Logs
 pub mod Operations
+pub mod Fields

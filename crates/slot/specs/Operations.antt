@@ -1,12 +1,13 @@
 -- The operations of a slot's record: each gives the next record, every field of it.
 use mathlib.Core.Bool.{Bool, true, false, cond}
-use mathlib.Core.List.{List, [], _∷_, _++_}
+use mathlib.Core.List.{List, []}
 use mathlib.Core.Option.{Option, none, some}
 use mathlib.Core.Path.{_≡_}
-use Prim.Native.Nat.{ℕ, suc, _+_, _≤_}
-use lib.Dec.{eqb, ltb, leb}
-use lib.ListN.{length, take, drop, set}
+use Prim.Native.Nat.{ℕ, _+_, _≤_}
+use lib.Dec.{eqb, ltb}
+use lib.ListN.{length, set}
 use Rattle.slot.specs.Layout.{writeCapacity, empty}
+use Rattle.slot.specs.Logic.{pairwise}
 use Rattle.slot.specs.Logs.{writeLog, paddedWrites, busyRecord, putWrite}
 use Rattle.slot.specs.declared.ReadEntry.{ReadEntry}
 use Rattle.slot.specs.declared.WriteEntry.{WriteEntry}
@@ -80,20 +81,19 @@ joined v e = withReads v (v .readcount + 1) (set (v .reads) (v .readcount) e)
 abbrev pub written : SlotRecord → WriteEntry → SlotRecord
 written v e = withWrites v (length (putWrite e (writeLog v))) (paddedWrites (putWrite e (writeLog v)))
 
--- a write log that has room for the entry: its count is at most 16, unused entries are zero, and with the entry it is at most 16 long
+-- a write log that has room for the entry: its count is at most 16, unused entries are zero, it ascends by cell, and with the entry it is at most 16 long
 pub record Writable (v : SlotRecord) (e : WriteEntry) : Type 0 where
   pub counted : v .writecount ≤ writeCapacity
   pub unused : v .writes ≡ paddedWrites (writeLog v)
+  pub ascending : pairwise (λ (x y : WriteEntry). ltb (x .cell) (y .cell)) (writeLog v) ≡ true
   pub room : length (putWrite e (writeLog v)) ≤ writeCapacity
 
--- the place of a cell in a write log: the first entry whose cell is not below it, or the log's end
-unfoldable pub placeOf : ℕ → List WriteEntry → ℕ
-placeOf c [] = 0
-placeOf c (x ∷ writes) = cond (leb c (x .cell)) 0 (suc (placeOf c writes))
+-- of two entries the one of the lower cell, and the other
+abbrev pub lowerOf : WriteEntry → WriteEntry → WriteEntry
+lowerOf a b = cond (ltb (a .cell) (b .cell)) a b
 
--- one element more at a place
-abbrev pub insertedAt : {A : Type 0} → List A → ℕ → A → List A
-insertedAt l at e = take at l ++ (e ∷ drop at l)
+abbrev pub higherOf : WriteEntry → WriteEntry → WriteEntry
+higherOf a b = cond (ltb (a .cell) (b .cell)) b a
 
 -- close: locking
 abbrev pub closed : SlotRecord → SlotRecord

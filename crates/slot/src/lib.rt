@@ -1,30 +1,33 @@
 // A slot's record by value, its entries, and its bytes.
 ghost use mathlib.Core.Path.{_≡_};
 ghost use mathlib.Core.List.{[], _∷_};
-ghost use Prim.Native.Nat.{_+_, _*_, _≤_};
+ghost use Prim.Native.Nat.{_+_, _*_, _≤_, _<_};
 ghost use lib.ListN.{length, drop, getD};
 ghost use Rattle.wire.specs.Field.{be};
 ghost use Rattle.wire.specs.Part.{splice};
-ghost use Rattle.wire.specs.Table.{cat, tab};
+ghost use Rattle.wire.specs.Table.{tab};
 ghost use Rattle.slot.specs.Layout.{
   readCapacity,
   writeCapacity,
   readSize,
   writeSize,
   noRead,
-  noWrite,
   bit,
   readOf,
   readBytes,
   writeOf,
   writeBytes,
-  slotOf,
-  slotBytes,
+  fieldBytes,
+  readLogBytes,
+  writeLogBytes,
   slotSize,
   startAt,
+  readsAt,
+  writesAt,
   empty,
 };
 
+pub mod in_place;
 mod operations;
 
 // A read entry: its cell, whether it is marked, and the word read.
@@ -113,24 +116,6 @@ fn write_of(s: &[u8], at: usize) -> WriteEntry
     }
 }
 
-// The read log at `at`.
-fn reads_of(s: &[u8], at: usize) -> [ReadEntry; 16]
-    requires { ⌜ at + readSize * readCapacity ≤ length (now s) ⌝ }
-    ensures { λ r. ⌜ r ≡ tab readCapacity (λ i. readOf (drop (at + readSize * i) (now (s .entry)))) ⌝ }
-{
-    let mut log = [ReadEntry {
-        cell: 0,
-        mark: false,
-        word: 0,
-    }; 16];
-    let mut i = 0;
-    while i < SlotRecord::READS {
-        log[i] = read_of(s, at + ReadEntry::SIZE * i);
-        i += 1;
-    }
-    log
-}
-
 // The write log at `at`.
 fn writes_of(s: &[u8], at: usize) -> [WriteEntry; 16]
     requires { ⌜ at + writeSize * writeCapacity ≤ length (now s) ⌝ }
@@ -143,25 +128,6 @@ fn writes_of(s: &[u8], at: usize) -> [WriteEntry; 16]
         i += 1;
     }
     log
-}
-
-// The slot at `at`, with stamps of `width` bytes.
-pub fn unpack(s: &[u8], at: usize, width: usize) -> SlotRecord
-    requires { ⌜ (width ≤ 8) × (at + slotSize width ≤ length (now s)) ⌝ }
-    ensures { λ r. ⌜ r ≡ slotOf width (drop at (now (s .entry))) ⌝ }
-{
-    let log = at + 5 + 2 * width;
-    SlotRecord {
-        phase: s[at],
-        ignoring: s[at + 1] == 1,
-        taken: s[at + 2],
-        readcount: s[at + 3],
-        writecount: s[at + 4],
-        start: wire::get(s, at + 5, width),
-        commit: wire::get(s, at + 5 + width, width),
-        reads: reads_of(s, log),
-        writes: writes_of(s, log + SlotRecord::READ_LOG),
-    }
 }
 
 // Puts the fields of one byte at `at`.
@@ -206,7 +172,7 @@ fn put_write(s: &mut [u8], at: usize, e: WriteEntry)
 // Puts a read log at `at`.
 fn put_reads(s: &mut [u8], at: usize, log: [ReadEntry; 16])
     requires { ⌜ at + readSize * readCapacity ≤ length (now s) ⌝ }
-    ensures { λ r. ⌜ now (s .exit) ≡ splice (now (s .entry)) at (cat readCapacity (λ i. readBytes (getD log i noRead))) ⌝ }
+    ensures { λ r. ⌜ now (s .exit) ≡ splice (now (s .entry)) at (readLogBytes log) ⌝ }
 {
     let mut i = 0;
     while i < SlotRecord::READS {
@@ -218,7 +184,7 @@ fn put_reads(s: &mut [u8], at: usize, log: [ReadEntry; 16])
 // Puts a write log at `at`.
 fn put_writes(s: &mut [u8], at: usize, log: [WriteEntry; 16])
     requires { ⌜ at + writeSize * writeCapacity ≤ length (now s) ⌝ }
-    ensures { λ r. ⌜ now (s .exit) ≡ splice (now (s .entry)) at (cat writeCapacity (λ i. writeBytes (getD log i noWrite))) ⌝ }
+    ensures { λ r. ⌜ now (s .exit) ≡ splice (now (s .entry)) at (writeLogBytes log) ⌝ }
 {
     let mut i = 0;
     while i < SlotRecord::WRITES {
@@ -235,7 +201,7 @@ impl SlotRecord {
     // The bytes of the read log, which the write log follows.
     const READ_LOG: usize = ReadEntry::SIZE * SlotRecord::READS;
 
-    pub fn empty() -> Self
+    fn empty() -> Self
         ensures { λ r. ⌜ r ≡ empty ⌝ }
     {
         SlotRecord {
@@ -255,10 +221,10 @@ impl SlotRecord {
         }
     }
 
-    // Puts the slot at `at`, with stamps of `width` bytes.
-    pub fn pack(self, s: &mut [u8], at: usize, width: usize)
+    // Puts all but the logs at `at`.
+    pub fn pack_fields(self, s: &mut [u8], at: usize, width: usize)
         requires { ⌜ at + slotSize width ≤ length (now s) ⌝ }
-        ensures { λ r. ⌜ now (s .exit) ≡ splice (now (s .entry)) at (slotBytes width self) ⌝ }
+        ensures { λ r. ⌜ now (s .exit) ≡ splice (now (s .entry)) at (fieldBytes width self) ⌝ }
     {
         put_first(
             s,
@@ -271,10 +237,32 @@ impl SlotRecord {
         );
         wire::put(s, at + 5, width, self.start);
         wire::put(s, at + 5 + width, width, self.commit);
-        let log = at + 5 + 2 * width;
+    }
+
+    // Puts read entry `k` of the slot at `at`.
+    pub fn pack_read(self, s: &mut [u8], at: usize, width: usize, k: usize)
+        requires { ⌜ (at + slotSize width ≤ length (now s)) × (k < readCapacity) ⌝ }
+        ensures { λ r. ⌜ now (s .exit) ≡ splice (now (s .entry)) (at + (readsAt width + readSize * k)) (readBytes (getD (self .reads) k noRead)) ⌝ }
+    {
+        let e = self.reads[k];
+        put_read(s, at + 5 + 2 * width + ReadEntry::SIZE * k, e);
+    }
+
+    // Puts the read log of the slot at `at`.
+    pub fn pack_reads(self, s: &mut [u8], at: usize, width: usize)
+        requires { ⌜ at + slotSize width ≤ length (now s) ⌝ }
+        ensures { λ r. ⌜ now (s .exit) ≡ splice (now (s .entry)) (at + readsAt width) (readLogBytes (self .reads)) ⌝ }
+    {
         let reads = self.reads;
+        put_reads(s, at + 5 + 2 * width, reads);
+    }
+
+    // Puts the write log of the slot at `at`.
+    pub fn pack_writes(self, s: &mut [u8], at: usize, width: usize)
+        requires { ⌜ at + slotSize width ≤ length (now s) ⌝ }
+        ensures { λ r. ⌜ now (s .exit) ≡ splice (now (s .entry)) (at + writesAt width) (writeLogBytes (self .writes)) ⌝ }
+    {
         let writes = self.writes;
-        put_reads(s, log, reads);
-        put_writes(s, log + SlotRecord::READ_LOG, writes);
+        put_writes(s, at + 5 + 2 * width + SlotRecord::READ_LOG, writes);
     }
 }

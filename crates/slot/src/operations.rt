@@ -1,16 +1,12 @@
 // The operations of a slot's record: each takes the record and hands back the next one. What a step asks before is its own.
 ghost use mathlib.Core.Path.{_≡_};
-ghost use mathlib.Core.List.{_++_};
-ghost use Prim.Native.Nat.{_+_, _≤_, _<_};
-ghost use lib.ListN.{take, drop};
-ghost use Rattle.slot.specs.Layout.{readCapacity, writeCapacity};
-ghost use Rattle.slot.specs.Logs.{readLog, writeLog, readEntry, writeEntry, someMarked};
+ghost use Prim.Native.Nat.{_<_};
+ghost use Rattle.slot.specs.Layout.{readCapacity};
+ghost use Rattle.slot.specs.Logs.{readLog, someMarked};
 ghost use Rattle.slot.specs.Operations.{
-  readFound,
-  writeFound,
   Writable,
-  placeOf,
-  insertedAt,
+  lowerOf,
+  higherOf,
   begun,
   joined,
   written,
@@ -23,41 +19,21 @@ ghost use Rattle.slot.specs.Operations.{
   publishedOne,
 };
 use crate::ReadEntry;
-use crate::ReadFound;
 use crate::SlotRecord;
 use crate::WriteEntry;
-use crate::WriteFound;
 
-// The place of a cell in the first `count` entries.
-fn place(log: [WriteEntry; 16], count: usize, cell: u8) -> usize
-    requires { ⌜ count ≤ writeCapacity ⌝ }
-    ensures { λ r. ⌜ r ≡ placeOf cell (take count log) ⌝ }
+// Of two entries the one of the lower cell.
+fn lower(a: WriteEntry, b: WriteEntry) -> WriteEntry
+    ensures { λ r. ⌜ r ≡ lowerOf a b ⌝ }
 {
-    let mut i = 0;
-    while i < count {
-        if cell <= log[i].cell {
-            return i;
-        }
-        i += 1;
-    }
-    i
+    if a.cell < b.cell { a } else { b }
 }
 
-// One entry more at `at`: those from there on move up by one, as far as the count goes.
-fn inserted(mut log: [WriteEntry; 16], count: usize, at: usize, e: WriteEntry) -> [WriteEntry; 16]
-    requires { ⌜ (at ≤ count) × (count < writeCapacity) ⌝ }
-    ensures { λ r. ⌜ r ≡ insertedAt (take count log) at e ++ drop (count + 1) log ⌝ }
+// The other one.
+fn higher(a: WriteEntry, b: WriteEntry) -> WriteEntry
+    ensures { λ r. ⌜ r ≡ higherOf a b ⌝ }
 {
-    let mut carried = e;
-    let mut i = at;
-    while i < count {
-        let moving = log[i];
-        log[i] = carried;
-        carried = moving;
-        i += 1;
-    }
-    log[i] = carried;
-    log
+    if a.cell < b.cell { b } else { a }
 }
 
 impl SlotRecord {
@@ -82,23 +58,25 @@ impl SlotRecord {
         self
     }
 
-    // write, and update
+    // write, and update: the entry is carried up the log to its place, and from there on each entry by one
     pub fn written(mut self, e: WriteEntry) -> Self
         requires { ⌜ Writable self e ⌝ }
         ensures { λ r. ⌜ r ≡ written self e ⌝ }
     {
-        let log = self.writes;
         let count = self.writecount as usize;
-        let cell = e.cell;
-        let at = place(log, count, cell);
-        if at < count {
-            if log[at].cell == cell {
-                self.writes[at] = e;
+        let mut carried = e;
+        let mut i = 0;
+        while i < count {
+            let here = self.writes[i];
+            if carried.cell == here.cell {
+                self.writes[i] = carried;
                 return self;
             }
+            self.writes[i] = lower(carried, here);
+            carried = higher(carried, here);
+            i += 1;
         }
-        let next = inserted(log, count, at, e);
-        self.writes = next;
+        self.writes[i] = carried;
         self.writecount += 1;
         self
     }
@@ -171,40 +149,6 @@ impl SlotRecord {
             return self;
         }
         SlotRecord::empty()
-    }
-
-    // The read entry of a cell.
-    pub fn find_read(self, cell: u8) -> ReadFound
-        ensures { λ r. ⌜ r ≡ readFound (readEntry (readLog self) cell) ⌝ }
-    {
-        let log = self.reads;
-        let count = self.readcount as usize;
-        let mut i = 0;
-        while i < SlotRecord::READS && i < count {
-            let e = log[i];
-            if e.cell == cell {
-                return ReadFound::Entry(e);
-            }
-            i += 1;
-        }
-        ReadFound::Nothing
-    }
-
-    // The write entry of a cell.
-    pub fn find_write(self, cell: u8) -> WriteFound
-        ensures { λ r. ⌜ r ≡ writeFound (writeEntry (writeLog self) cell) ⌝ }
-    {
-        let log = self.writes;
-        let count = self.writecount as usize;
-        let mut i = 0;
-        while i < SlotRecord::WRITES && i < count {
-            let e = log[i];
-            if e.cell == cell {
-                return WriteFound::Entry(e);
-            }
-            i += 1;
-        }
-        WriteFound::Nothing
     }
 
     // Whether an entry of the read log is marked.

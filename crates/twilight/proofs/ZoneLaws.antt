@@ -1,9 +1,7 @@
 -- The laws of the steps from enter to publish.
-pub mod Found
 pub mod Phase
 pub mod Record
 pub mod Stamp
 pub mod Entry
 pub mod Commit
 pub mod Right
-pub mod Done

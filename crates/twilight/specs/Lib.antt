@@ -1,1 +1,2 @@
 pub mod Did
+pub mod Asked

@@ -1,11 +1,10 @@
 // The steps from enter to publish, on a lent area. Each takes its slot's record out, asks in the order of the codes, and puts back what changed; a refusal
 // touches nothing.
-ghost use mathlib.Core.Bool.{not};
 ghost use mathlib.Core.Path.{_≡_};
 ghost use Prim.Native.Nat.{_<_};
-ghost use Rattle.slot.specs.Logic.{_and_};
-ghost use Rattle.slot.specs.Logs.{readLog, someMarked};
+ghost use Rattle.rules.specs.Layout.{lay};
 ghost use Rattle.rules.specs.Model.{controller};
+ghost use Rattle.rules.specs.State.{slotAt};
 ghost use Rattle.rules.specs.Steps.{
   enter,
   reread,
@@ -19,11 +18,12 @@ ghost use Rattle.rules.specs.Steps.{
 };
 ghost use Rattle.area.specs.Good.{Good, stateIn};
 ghost use Rattle.twilight.specs.Did.{Did};
+ghost use Rattle.twilight.specs.Asked.{markedUnignored};
 use area::Obstacle;
+use area::stores;
 use call::Reply;
 use rules::Cell;
 use slot::ReadFound;
-use slot::SlotRecord;
 use slot::WriteEntry;
 use slot::WriteFound;
 use value::CellValue;
@@ -36,10 +36,10 @@ pub fn enter(s: &mut [u8], i: u8) -> Reply
     requires { ⌜ Good (now s) × (i < 8) ⌝ }
     ensures { λ r. ⌜ Did (enter controller (stateIn (now (s .entry))) i) (now (s .entry)) r (now (s .exit)) ⌝ }
 {
-    let v = area::slot_at(s, i);
-    if v.phase != 2 {
+    if area::phase_at(s, i) != 2 {
         return Reply::NotAllowed;
     }
+    let v = area::fields_at(s, i);
     if v.taken < v.writecount {
         return Reply::NotAllowed;
     }
@@ -48,8 +48,8 @@ pub fn enter(s: &mut [u8], i: u8) -> Reply
         return Reply::LastStamp;
     }
     let commit = clock + 1;
-    let w = v.entered(area::marked_reads(s, i, v), commit);
-    area::store_slot_clock(s, i, w, commit);
+    let w = v.entered(area::marked_reads(s, i), commit);
+    stores::store_reads_clock(s, i, w, commit);
     Reply::Verdict(!w.some_marked())
 }
 
@@ -58,14 +58,13 @@ pub fn reread(s: &mut [u8], i: u8, cell: u8) -> Reply
     requires { ⌜ Good (now s) × (i < 8) ⌝ }
     ensures { λ r. ⌜ Did (reread controller (stateIn (now (s .entry))) i cell) (now (s .entry)) r (now (s .exit)) ⌝ }
 {
-    let v = area::slot_at(s, i);
-    if v.phase != 3 {
+    if area::phase_at(s, i) != 3 {
         return Reply::NotAllowed;
     }
     if area::count(s) <= cell {
         return Reply::NoSuchCell;
     }
-    let ReadFound::Entry(e) = v.find_read(cell) else {
+    let ReadFound::Entry(e) = area::find_read(s, i, cell) else {
         return Reply::NotInLog;
     };
     let x = area::cell_at(s, cell);
@@ -77,8 +76,7 @@ pub fn update(s: &mut [u8], i: u8, cell: u8, to: CellValue) -> Reply
     requires { ⌜ Good (now s) × (i < 8) ⌝ }
     ensures { λ r. ⌜ Did (update controller (stateIn (now (s .entry))) i cell to) (now (s .entry)) r (now (s .exit)) ⌝ }
 {
-    let v = area::slot_at(s, i);
-    if v.phase != 3 {
+    if area::phase_at(s, i) != 3 {
         return Reply::NotAllowed;
     }
     if area::count(s) <= cell {
@@ -93,10 +91,11 @@ pub fn update(s: &mut [u8], i: u8, cell: u8, to: CellValue) -> Reply
     if kind != x.kind {
         return Reply::OtherKind;
     }
-    let WriteFound::Entry(_) = v.find_write(cell) else {
+    let WriteFound::Entry(_) = area::find_write(s, i, cell) else {
         return Reply::NotInLog;
     };
-    area::store_slot(s, i, v.written(WriteEntry { cell, word }));
+    let v = area::writes_at(s, i);
+    stores::store_writes(s, i, v.written(WriteEntry { cell, word }));
     Reply::Done
 }
 
@@ -105,8 +104,7 @@ pub fn illegal_update(s: &mut [u8], i: u8, cell: u8) -> Reply
     requires { ⌜ Good (now s) × (i < 8) ⌝ }
     ensures { λ r. ⌜ Did (illegalUpdate controller (stateIn (now (s .entry))) i cell) (now (s .entry)) r (now (s .exit)) ⌝ }
 {
-    let v = area::slot_at(s, i);
-    if v.phase != 3 {
+    if area::phase_at(s, i) != 3 {
         return Reply::NotAllowed;
     }
     if area::count(s) <= cell {
@@ -120,14 +118,13 @@ pub fn ask(s: &mut [u8], i: u8, cell: u8) -> Reply
     requires { ⌜ Good (now s) × (i < 8) ⌝ }
     ensures { λ r. ⌜ Did (ask controller (stateIn (now (s .entry))) i cell) (now (s .entry)) r (now (s .exit)) ⌝ }
 {
-    let v = area::slot_at(s, i);
-    if v.phase != 3 {
+    if area::phase_at(s, i) != 3 {
         return Reply::NotAllowed;
     }
     if area::count(s) <= cell {
         return Reply::NoSuchCell;
     }
-    let ReadFound::Entry(e) = v.find_read(cell) else {
+    let ReadFound::Entry(e) = area::find_read(s, i, cell) else {
         return Reply::NotInLog;
     };
     Reply::Verdict(e.mark)
@@ -138,11 +135,10 @@ pub fn reload(s: &mut [u8], i: u8) -> Reply
     requires { ⌜ Good (now s) × (i < 8) ⌝ }
     ensures { λ r. ⌜ Did (reload controller (stateIn (now (s .entry))) i) (now (s .entry)) r (now (s .exit)) ⌝ }
 {
-    let v = area::slot_at(s, i);
-    if v.phase != 3 {
+    if area::phase_at(s, i) != 3 {
         return Reply::NotAllowed;
     }
-    if let Obstacle::Held { cell, holder } = area::first_obstacle(s, i, v) {
+    if let Obstacle::Held { cell, holder } = area::first_obstacle(s, i) {
         return Reply::ReloadHeld { cell, holder };
     }
     let clock = area::clock(s);
@@ -150,8 +146,9 @@ pub fn reload(s: &mut [u8], i: u8) -> Reply
         return Reply::LastStamp;
     }
     let stamp = clock + 1;
-    let w = v.reloaded(area::reloaded_reads(s, v), stamp);
-    area::store_slot_clock(s, i, w, stamp);
+    let v = area::fields_at(s, i);
+    let w = v.reloaded(area::reloaded_reads(s, i), stamp);
+    stores::store_reads_clock(s, i, w, stamp);
     Reply::Done
 }
 
@@ -160,24 +157,26 @@ pub fn ignore(s: &mut [u8], i: u8) -> Reply
     requires { ⌜ Good (now s) × (i < 8) ⌝ }
     ensures { λ r. ⌜ Did (ignore controller (stateIn (now (s .entry))) i) (now (s .entry)) r (now (s .exit)) ⌝ }
 {
-    let v = area::slot_at(s, i);
-    if v.phase != 3 {
+    if area::phase_at(s, i) != 3 {
         return Reply::NotAllowed;
     }
-    if v.some_marked() {
-        area::store_slot(s, i, v.ignoring_set());
+    if area::some_marked(s, i) {
+        let v = area::fields_at(s, i);
+        stores::store_fields(s, i, v.ignoring_set());
     }
     Reply::Done
 }
 
 // Some mark and no flag: what was read no longer holds together, and the task does not ignore it.
-fn spoilt(v: SlotRecord) -> bool
-    ensures { λ r. ⌜ r ≡ (someMarked (readLog v) and not (v .ignoring)) ⌝ }
+fn spoilt(s: &[u8], i: u8) -> bool
+    requires { ⌜ Good (now s) × (i < 8) ⌝ }
+    ensures { λ r. ⌜ r ≡ markedUnignored (lay (slotAt (stateIn (now (s .entry))) i)) ⌝ }
 {
+    let v = area::fields_at(s, i);
     if v.ignoring {
         return false;
     }
-    v.some_marked()
+    area::some_marked(s, i)
 }
 
 // Ends without commit and frees all held cells, or commits: publishing, or idle at once if nothing was written.
@@ -185,15 +184,15 @@ pub fn finish(s: &mut [u8], i: u8) -> Reply
     requires { ⌜ Good (now s) × (i < 8) ⌝ }
     ensures { λ r. ⌜ Did (finish controller (stateIn (now (s .entry))) i) (now (s .entry)) r (now (s .exit)) ⌝ }
 {
-    let v = area::slot_at(s, i);
-    if v.phase != 3 {
+    if area::phase_at(s, i) != 3 {
         return Reply::NotAllowed;
     }
-    if spoilt(v) {
-        area::store_slot_freed(s, i, SlotRecord::empty());
+    if spoilt(s, i) {
+        stores::store_freed(s, i);
         return Reply::Aborted;
     }
-    area::store_slot(s, i, v.finished());
+    let v = area::fields_at(s, i);
+    stores::store_fields(s, i, v.finished());
     Reply::Done
 }
 
@@ -202,12 +201,11 @@ pub fn publish(s: &mut [u8], i: u8) -> Reply
     requires { ⌜ Good (now s) × (i < 8) ⌝ }
     ensures { λ r. ⌜ Did (publish controller (stateIn (now (s .entry))) i) (now (s .entry)) r (now (s .exit)) ⌝ }
 {
-    let v = area::slot_at(s, i);
-    if v.phase != 4 {
+    if area::phase_at(s, i) != 4 {
         return Reply::NotAllowed;
     }
-    let taken = v.taken as usize;
-    let e = v.writes[taken];
+    let v = area::fields_at(s, i);
+    let e = area::write_at(s, i, v.taken);
     let x = area::cell_at(s, e.cell);
     let published = Cell {
         kind: x.kind,
@@ -215,6 +213,6 @@ pub fn publish(s: &mut [u8], i: u8) -> Reply
         word: e.word,
         stamp: v.commit,
     };
-    area::store_slot_cell(s, i, v.published_one(), e.cell, published);
+    stores::store_fields_cell(s, i, v.published_one(), e.cell, published);
     Reply::Done
 }

@@ -1,67 +1,107 @@
--- `marked_reads` meets its contract: before each turn the first `k` entries are marked; those from the count on are zero and stay so.
-use mathlib.Core.Path.{_≡_, refl, _∙_}
+-- `marked_reads` meets its contract: before each turn the array has the first `k` entries with their marks.
+use mathlib.Core.Path.{_≡_, refl, ap, _∙_}
 use Prim.Native.Nat.{_-_, _≤_}
 use native.Mathlib.Omega.{arith}
+use lib.ListN.{length}
+use Rattle.slot.specs.declared.SlotRecord.{SlotRecord}
 use Rattle.slot.specs.Layout.{noRead}
-use Rattle.rules.specs.Cells.{withMark}
+use Rattle.rules.specs.State.{slotAt}
+use Rattle.rules.specs.Layout.{lay}
 use Rattle.area.specs.Good.{stateIn}
-use Rattle.area.proofs.Sweep.{sweep, sweep-at, sweep-turn}
-use Rattle.area.proofs.Logged.{swept-log}
+use Rattle.area.proofs.Logged.{logged-of}
+use Rattle.rules.specs.Cells.{withMark}
+use Rattle.area.proofs.Fill.{filled, filled-length, filled-next}
 use Rattle.area.proofs.marked_reads.Statement.{statement}
 use Rattle.area.proofs.marked_reads.Tie as tie
 
 abbrev Inv-loop : tie.InvT-loop
-Inv-loop s i start n log₀ k₀ log k = (k ≤ n) × (log ≡ sweep (withMark (stateIn s) i start) noRead log₀ k)
+Inv-loop s i start n log₀ k₀ log k = (k ≤ n) × (log ≡ filled (withMark (stateIn s) i start) noRead (lay (slotAt (stateIn s) i) .reads) k)
 
 abbrev μ-loop : tie.MeasureT-loop
 μ-loop s i start n log₀ k₀ log k = n - k
 
+fields-at-requires : tie.Need-fields-at-requires Inv-loop μ-loop
+fields-at-requires c κs = ((c .before .pre .0), (c .before .pre .1))
+
 cast-n : tie.Need-cast-n Inv-loop μ-loop
-cast-n c = omega arith
+cast-n c =
+    let S = stateIn (c .before .before .before .args .s .now) in
+    let v = lay (slotAt S (c .before .before .before .args .i)) in
+    let count = ap (λ (u : SlotRecord). u .readcount) (c .before .fields-at .ensures) in
+    let logged = logged-of (c .before .before .before .args .s .now) (c .before .before .before .pre .0) (c .before .before .before .args .i) (c .before .before .before .pre .1) v refl in
+    omega arith
 
 loop-holds : tie.Need-loop-holds Inv-loop μ-loop
-loop-holds c = (omega arith, refl)
+loop-holds c = (omega arith, ap (λ (u : SlotRecord). u .reads) (c .before .before .fields-at .ensures))
 
-mul-marked-entry : tie.Need-mul-marked-entry Inv-loop μ-loop
-mul-marked-entry c = omega arith
-
-array-copy-out-marked-entry : tie.Need-array-copy-out-marked-entry Inv-loop μ-loop
-array-copy-out-marked-entry c = omega arith
+read-at-requires : tie.Need-read-at-requires Inv-loop μ-loop
+read-at-requires c κs =
+    let S = stateIn (c .before .before .before .before .before .before .args .s .now) in
+    let v = lay (slotAt S (c .before .before .before .before .before .before .args .i)) in
+    let count = ap (λ (u : SlotRecord). u .readcount) (c .before .before .before .before .fields-at .ensures) in
+    let logged = logged-of (c .before .before .before .before .before .before .args .s .now) (c .before .before .before .before .before .before .pre .0) (c .before .before .before .before .before .before .args .i) (c .before .before .before .before .before .before .pre .1) v refl in
+    ((c .before .before .before .before .before .before .pre .0), (c .before .before .before .before .before .before .pre .1), omega arith)
 
 marked-entry-requires : tie.Need-marked-entry-requires Inv-loop μ-loop
 marked-entry-requires c κs =
-    let start = c .before .before .before .before .before .before in
-    let loop = c .before .before .loop in
-    let logged = start .pre .2 in
-    let same = sweep-at (withMark (stateIn (start .args .s .now)) (start .args .i) (start .args .v .start)) noRead (start .args .v .reads) (loop .log) (loop .k) (omega arith) (loop .inv .1) in
-    (start .pre .0, start .pre .1, rw same (logged .inside (loop .k) (omega arith)))
+    let S = stateIn (c .before .before .before .before .before .before .before .args .s .now) in
+    let v = lay (slotAt S (c .before .before .before .before .before .before .before .args .i)) in
+    let count = ap (λ (u : SlotRecord). u .readcount) (c .before .before .before .before .before .fields-at .ensures) in
+    let logged = logged-of (c .before .before .before .before .before .before .before .args .s .now) (c .before .before .before .before .before .before .before .pre .0) (c .before .before .before .before .before .before .before .args .i) (c .before .before .before .before .before .before .before .pre .1) v refl in
+    ((c .before .before .before .before .before .before .before .pre .0), (c .before .before .before .before .before .before .before .pre .1), rw (c .read-at .ensures) (logged .inside (c .before .before .loop .k) (omega arith)))
 
 mul-log : tie.Need-mul-log Inv-loop μ-loop
-mul-log c = omega arith
+mul-log c =
+    let S = stateIn (c .before .before .before .before .before .before .before .before .args .s .now) in
+    let v = lay (slotAt S (c .before .before .before .before .before .before .before .before .args .i)) in
+    let count = ap (λ (u : SlotRecord). u .readcount) (c .before .before .before .before .before .before .fields-at .ensures) in
+    let logged = logged-of (c .before .before .before .before .before .before .before .before .args .s .now) (c .before .before .before .before .before .before .before .before .pre .0) (c .before .before .before .before .before .before .before .before .args .i) (c .before .before .before .before .before .before .before .before .pre .1) v refl in
+    omega arith
 
 array-set-from-log : tie.Need-array-set-from-log Inv-loop μ-loop
-array-set-from-log c = omega arith
+array-set-from-log c =
+    let S = stateIn (c .before .before .before .before .before .before .before .before .args .s .now) in
+    let v = lay (slotAt S (c .before .before .before .before .before .before .before .before .args .i)) in
+    let count = ap (λ (u : SlotRecord). u .readcount) (c .before .before .before .before .before .before .fields-at .ensures) in
+    let logged = logged-of (c .before .before .before .before .before .before .before .before .args .s .now) (c .before .before .before .before .before .before .before .before .pre .0) (c .before .before .before .before .before .before .before .before .args .i) (c .before .before .before .before .before .before .before .before .pre .1) v refl in
+    let size = filled-length (withMark S (c .before .before .before .before .before .before .before .before .args .i) (c .before .before .before .before .before .before .fields-at .result .start)) noRead (v .reads) (c .before .before .before .loop .k) (omega arith) (omega arith) in
+    let same = ap length (c .before .before .before .loop .inv .1) in
+    omega arith
 
 add-k : tie.Need-add-k Inv-loop μ-loop
-add-k c = omega arith
+add-k c =
+    let S = stateIn (c .before .before .before .before .before .before .before .before .args .s .now) in
+    let v = lay (slotAt S (c .before .before .before .before .before .before .before .before .args .i)) in
+    let count = ap (λ (u : SlotRecord). u .readcount) (c .before .before .before .before .before .before .fields-at .ensures) in
+    let logged = logged-of (c .before .before .before .before .before .before .before .before .args .s .now) (c .before .before .before .before .before .before .before .before .pre .0) (c .before .before .before .before .before .before .before .before .args .i) (c .before .before .before .before .before .before .before .before .pre .1) v refl in
+    omega arith
 
 loop-less : tie.Need-loop-less Inv-loop μ-loop
-loop-less c = omega arith
+loop-less c =
+    let S = stateIn (c .before .before .before .before .before .before .before .before .args .s .now) in
+    let v = lay (slotAt S (c .before .before .before .before .before .before .before .before .args .i)) in
+    let count = ap (λ (u : SlotRecord). u .readcount) (c .before .before .before .before .before .before .fields-at .ensures) in
+    let logged = logged-of (c .before .before .before .before .before .before .before .before .args .s .now) (c .before .before .before .before .before .before .before .before .pre .0) (c .before .before .before .before .before .before .before .before .args .i) (c .before .before .before .before .before .before .before .before .pre .1) v refl in
+    omega arith
 
 loop-again : tie.Need-loop-again Inv-loop μ-loop
 loop-again c =
-    let start = c .before .before .before .before .before .before .before in
-    let loop = c .before .before .before .loop in
-    (omega arith, sweep-turn (withMark (stateIn (start .args .s .now)) (start .args .i) (start .args .v .start)) noRead (start .args .v .reads) (loop .log) (c .marked-entry .result) (loop .k) (omega arith) (loop .inv .1) (c .marked-entry .ensures))
+    let S = stateIn (c .before .before .before .before .before .before .before .before .args .s .now) in
+    let v = lay (slotAt S (c .before .before .before .before .before .before .before .before .args .i)) in
+    let count = ap (λ (u : SlotRecord). u .readcount) (c .before .before .before .before .before .before .fields-at .ensures) in
+    let logged = logged-of (c .before .before .before .before .before .before .before .before .args .s .now) (c .before .before .before .before .before .before .before .before .pre .0) (c .before .before .before .before .before .before .before .before .args .i) (c .before .before .before .before .before .before .before .before .pre .1) v refl in
+    let new = (c .marked-entry .ensures) ∙ ap (withMark S (c .before .before .before .before .before .before .before .before .args .i) (c .before .before .before .before .before .before .fields-at .result .start)) (c .before .read-at .ensures) in
+    (omega arith, filled-next (withMark S (c .before .before .before .before .before .before .before .before .args .i) (c .before .before .before .before .before .before .fields-at .result .start)) noRead (v .reads) (c .before .before .before .loop .log) (c .marked-entry .result) (c .before .before .before .loop .k) (omega arith) (omega arith) (c .before .before .before .loop .inv .1) new)
 
 returns : tie.Need-returns Inv-loop μ-loop
 returns c =
-    let start = c .before .before .before .before .before in
-    let loop = c .before .loop in
-    let v = start .args .v in
-    let logged = start .pre .2 in
-    let all : loop .k ≡ v .readcount = omega arith in
-    rw all at (loop .inv .1) ∙ swept-log (withMark (stateIn (start .args .s .now)) (start .args .i) (start .args .v .start)) (v .reads) (v .readcount) (logged .whole) (logged .most) (logged .padded)
+    let S = stateIn (c .before .before .before .before .before .before .args .s .now) in
+    let v = lay (slotAt S (c .before .before .before .before .before .before .args .i)) in
+    let count = ap (λ (u : SlotRecord). u .readcount) (c .before .before .before .before .fields-at .ensures) in
+    let logged = logged-of (c .before .before .before .before .before .before .args .s .now) (c .before .before .before .before .before .before .pre .0) (c .before .before .before .before .before .before .args .i) (c .before .before .before .before .before .before .pre .1) v refl in
+    let start = ap (λ (u : SlotRecord). u .start) (c .before .before .before .before .fields-at .ensures) in
+    let all : (c .before .loop .k) ≡ v .readcount = omega arith in
+    (c .before .loop .inv .1) ∙ (λ j. filled (withMark S (c .before .before .before .before .before .before .args .i) (start j)) noRead (v .reads) (all j))
 
 pub marked-reads-spec : {M : Type 1} → statement M
 marked-reads-spec =
@@ -69,10 +109,10 @@ marked-reads-spec =
     (tie.spec
     Inv-loop
     μ-loop
+    fields-at-requires
     cast-n
     loop-holds
-    mul-marked-entry
-    array-copy-out-marked-entry
+    read-at-requires
     marked-entry-requires
     mul-log
     array-set-from-log

@@ -1,67 +1,106 @@
--- `reloaded_reads` meets its contract: before each turn the first `k` entries are reloaded; those from the count on are zero and stay so.
-use mathlib.Core.Path.{_≡_, refl, _∙_}
+-- `reloaded_reads` meets its contract: before each turn the array has the first `k` entries with their cells' present words.
+use mathlib.Core.Path.{_≡_, refl, ap, _∙_}
 use Prim.Native.Nat.{_-_, _≤_}
 use native.Mathlib.Omega.{arith}
+use lib.ListN.{length}
+use Rattle.slot.specs.declared.SlotRecord.{SlotRecord}
 use Rattle.slot.specs.Layout.{noRead}
-use Rattle.rules.specs.Cells.{reloaded}
+use Rattle.rules.specs.State.{slotAt}
+use Rattle.rules.specs.Layout.{lay}
 use Rattle.area.specs.Good.{stateIn}
-use Rattle.area.proofs.Sweep.{sweep, sweep-at, sweep-turn}
-use Rattle.area.proofs.Logged.{swept-log}
+use Rattle.area.proofs.Logged.{logged-of}
+use Rattle.rules.specs.Cells.{reloaded}
+use Rattle.area.proofs.Fill.{filled, filled-length, filled-next}
 use Rattle.area.proofs.reloaded_reads.Statement.{statement}
 use Rattle.area.proofs.reloaded_reads.Tie as tie
 
 abbrev Inv-loop : tie.InvT-loop
-Inv-loop s n log₀ k₀ log k = (k ≤ n) × (log ≡ sweep (reloaded (stateIn s)) noRead log₀ k)
+Inv-loop s i n log₀ k₀ log k = (k ≤ n) × (log ≡ filled (reloaded (stateIn s)) noRead (lay (slotAt (stateIn s) i) .reads) k)
 
 abbrev μ-loop : tie.MeasureT-loop
-μ-loop s n log₀ k₀ log k = n - k
+μ-loop s i n log₀ k₀ log k = n - k
+
+fields-at-requires : tie.Need-fields-at-requires Inv-loop μ-loop
+fields-at-requires c κs = ((c .before .pre .0), (c .before .pre .1))
 
 cast-n : tie.Need-cast-n Inv-loop μ-loop
-cast-n c = omega arith
+cast-n c =
+    let S = stateIn (c .before .before .before .args .s .now) in
+    let v = lay (slotAt S (c .before .before .before .args .i)) in
+    let count = ap (λ (u : SlotRecord). u .readcount) (c .before .fields-at .ensures) in
+    let logged = logged-of (c .before .before .before .args .s .now) (c .before .before .before .pre .0) (c .before .before .before .args .i) (c .before .before .before .pre .1) v refl in
+    omega arith
 
 loop-holds : tie.Need-loop-holds Inv-loop μ-loop
-loop-holds c = (omega arith, refl)
+loop-holds c = (omega arith, ap (λ (u : SlotRecord). u .reads) (c .before .before .fields-at .ensures))
 
-mul-reloaded-entry : tie.Need-mul-reloaded-entry Inv-loop μ-loop
-mul-reloaded-entry c = omega arith
-
-array-copy-out-reloaded-entry : tie.Need-array-copy-out-reloaded-entry Inv-loop μ-loop
-array-copy-out-reloaded-entry c = omega arith
+read-at-requires : tie.Need-read-at-requires Inv-loop μ-loop
+read-at-requires c κs =
+    let S = stateIn (c .before .before .before .before .before .before .args .s .now) in
+    let v = lay (slotAt S (c .before .before .before .before .before .before .args .i)) in
+    let count = ap (λ (u : SlotRecord). u .readcount) (c .before .before .before .before .fields-at .ensures) in
+    let logged = logged-of (c .before .before .before .before .before .before .args .s .now) (c .before .before .before .before .before .before .pre .0) (c .before .before .before .before .before .before .args .i) (c .before .before .before .before .before .before .pre .1) v refl in
+    ((c .before .before .before .before .before .before .pre .0), (c .before .before .before .before .before .before .pre .1), omega arith)
 
 reloaded-entry-requires : tie.Need-reloaded-entry-requires Inv-loop μ-loop
 reloaded-entry-requires c κs =
-    let start = c .before .before .before .before .before .before in
-    let loop = c .before .before .loop in
-    let logged = start .pre .1 in
-    let same = sweep-at (reloaded (stateIn (start .args .s .now))) noRead (start .args .v .reads) (loop .log) (loop .k) (omega arith) (loop .inv .1) in
-    (start .pre .0, rw same (logged .inside (loop .k) (omega arith)))
+    let S = stateIn (c .before .before .before .before .before .before .before .args .s .now) in
+    let v = lay (slotAt S (c .before .before .before .before .before .before .before .args .i)) in
+    let count = ap (λ (u : SlotRecord). u .readcount) (c .before .before .before .before .before .fields-at .ensures) in
+    let logged = logged-of (c .before .before .before .before .before .before .before .args .s .now) (c .before .before .before .before .before .before .before .pre .0) (c .before .before .before .before .before .before .before .args .i) (c .before .before .before .before .before .before .before .pre .1) v refl in
+    ((c .before .before .before .before .before .before .before .pre .0), rw (c .read-at .ensures) (logged .inside (c .before .before .loop .k) (omega arith)))
 
 mul-log : tie.Need-mul-log Inv-loop μ-loop
-mul-log c = omega arith
+mul-log c =
+    let S = stateIn (c .before .before .before .before .before .before .before .before .args .s .now) in
+    let v = lay (slotAt S (c .before .before .before .before .before .before .before .before .args .i)) in
+    let count = ap (λ (u : SlotRecord). u .readcount) (c .before .before .before .before .before .before .fields-at .ensures) in
+    let logged = logged-of (c .before .before .before .before .before .before .before .before .args .s .now) (c .before .before .before .before .before .before .before .before .pre .0) (c .before .before .before .before .before .before .before .before .args .i) (c .before .before .before .before .before .before .before .before .pre .1) v refl in
+    omega arith
 
 array-set-from-log : tie.Need-array-set-from-log Inv-loop μ-loop
-array-set-from-log c = omega arith
+array-set-from-log c =
+    let S = stateIn (c .before .before .before .before .before .before .before .before .args .s .now) in
+    let v = lay (slotAt S (c .before .before .before .before .before .before .before .before .args .i)) in
+    let count = ap (λ (u : SlotRecord). u .readcount) (c .before .before .before .before .before .before .fields-at .ensures) in
+    let logged = logged-of (c .before .before .before .before .before .before .before .before .args .s .now) (c .before .before .before .before .before .before .before .before .pre .0) (c .before .before .before .before .before .before .before .before .args .i) (c .before .before .before .before .before .before .before .before .pre .1) v refl in
+    let size = filled-length (reloaded S) noRead (v .reads) (c .before .before .before .loop .k) (omega arith) (omega arith) in
+    let same = ap length (c .before .before .before .loop .inv .1) in
+    omega arith
 
 add-k : tie.Need-add-k Inv-loop μ-loop
-add-k c = omega arith
+add-k c =
+    let S = stateIn (c .before .before .before .before .before .before .before .before .args .s .now) in
+    let v = lay (slotAt S (c .before .before .before .before .before .before .before .before .args .i)) in
+    let count = ap (λ (u : SlotRecord). u .readcount) (c .before .before .before .before .before .before .fields-at .ensures) in
+    let logged = logged-of (c .before .before .before .before .before .before .before .before .args .s .now) (c .before .before .before .before .before .before .before .before .pre .0) (c .before .before .before .before .before .before .before .before .args .i) (c .before .before .before .before .before .before .before .before .pre .1) v refl in
+    omega arith
 
 loop-less : tie.Need-loop-less Inv-loop μ-loop
-loop-less c = omega arith
+loop-less c =
+    let S = stateIn (c .before .before .before .before .before .before .before .before .args .s .now) in
+    let v = lay (slotAt S (c .before .before .before .before .before .before .before .before .args .i)) in
+    let count = ap (λ (u : SlotRecord). u .readcount) (c .before .before .before .before .before .before .fields-at .ensures) in
+    let logged = logged-of (c .before .before .before .before .before .before .before .before .args .s .now) (c .before .before .before .before .before .before .before .before .pre .0) (c .before .before .before .before .before .before .before .before .args .i) (c .before .before .before .before .before .before .before .before .pre .1) v refl in
+    omega arith
 
 loop-again : tie.Need-loop-again Inv-loop μ-loop
 loop-again c =
-    let start = c .before .before .before .before .before .before .before in
-    let loop = c .before .before .before .loop in
-    (omega arith, sweep-turn (reloaded (stateIn (start .args .s .now))) noRead (start .args .v .reads) (loop .log) (c .reloaded-entry .result) (loop .k) (omega arith) (loop .inv .1) (c .reloaded-entry .ensures))
+    let S = stateIn (c .before .before .before .before .before .before .before .before .args .s .now) in
+    let v = lay (slotAt S (c .before .before .before .before .before .before .before .before .args .i)) in
+    let count = ap (λ (u : SlotRecord). u .readcount) (c .before .before .before .before .before .before .fields-at .ensures) in
+    let logged = logged-of (c .before .before .before .before .before .before .before .before .args .s .now) (c .before .before .before .before .before .before .before .before .pre .0) (c .before .before .before .before .before .before .before .before .args .i) (c .before .before .before .before .before .before .before .before .pre .1) v refl in
+    let new = (c .reloaded-entry .ensures) ∙ ap (reloaded S) (c .before .read-at .ensures) in
+    (omega arith, filled-next (reloaded S) noRead (v .reads) (c .before .before .before .loop .log) (c .reloaded-entry .result) (c .before .before .before .loop .k) (omega arith) (omega arith) (c .before .before .before .loop .inv .1) new)
 
 returns : tie.Need-returns Inv-loop μ-loop
 returns c =
-    let start = c .before .before .before .before .before in
-    let loop = c .before .loop in
-    let v = start .args .v in
-    let logged = start .pre .1 in
-    let all : loop .k ≡ v .readcount = omega arith in
-    rw all at (loop .inv .1) ∙ swept-log (reloaded (stateIn (start .args .s .now))) (v .reads) (v .readcount) (logged .whole) (logged .most) (logged .padded)
+    let S = stateIn (c .before .before .before .before .before .before .args .s .now) in
+    let v = lay (slotAt S (c .before .before .before .before .before .before .args .i)) in
+    let count = ap (λ (u : SlotRecord). u .readcount) (c .before .before .before .before .fields-at .ensures) in
+    let logged = logged-of (c .before .before .before .before .before .before .args .s .now) (c .before .before .before .before .before .before .pre .0) (c .before .before .before .before .before .before .args .i) (c .before .before .before .before .before .before .pre .1) v refl in
+    let all : (c .before .loop .k) ≡ v .readcount = omega arith in
+    (c .before .loop .inv .1) ∙ ap (filled (reloaded S) noRead (v .reads)) all
 
 pub reloaded-reads-spec : {M : Type 1} → statement M
 reloaded-reads-spec =
@@ -69,10 +108,10 @@ reloaded-reads-spec =
     (tie.spec
     Inv-loop
     μ-loop
+    fields-at-requires
     cast-n
     loop-holds
-    mul-reloaded-entry
-    array-copy-out-reloaded-entry
+    read-at-requires
     reloaded-entry-requires
     mul-log
     array-set-from-log

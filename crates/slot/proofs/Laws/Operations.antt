@@ -13,14 +13,11 @@ use borrow.Author.Tests.{ltb-true, eqb-true, eqb-false, lt-ltb, ne-eqb}
 use Rattle.slot.specs.Layout.{readCapacity, writeCapacity, noRead, noWrite, empty}
 use Rattle.slot.specs.Logic.{_or_, any, all, pairwise}
 use Rattle.slot.specs.Logs.{paddedReads, paddedWrites, readLog, writeLog, busyRecord, putWrite, writesCell}
-use Rattle.slot.specs.Operations.{withReads, withWrites, Writable, begun, joined, written, closed, lockedOne, entered, reloadedWith, ignoringSet, finished, publishedOne}
+use Rattle.slot.specs.Operations.{withReads, withWrites, Writable, joined, written, lockedOne, entered, reloadedWith, ignoringSet, finished, publishedOne}
 use Rattle.slot.specs.declared.ReadEntry.{ReadEntry}
 use Rattle.slot.specs.declared.WriteEntry.{WriteEntry}
 use Rattle.slot.proofs.Logic.{and-left, and-right, or-right}
 use Rattle.slot.proofs.Padding.{padded-next}
-
-pub begun-busy : (start : ℕ) → begun start ≡ busyRecord 1 false 0 start 0 [] []
-begun-busy start = refl
 
 module _ (phase : ℕ) (ignoring : Bool) (taken start commit : ℕ) (reads : List ReadEntry) (writes : List WriteEntry) where
   -- its logs
@@ -38,10 +35,10 @@ module _ (phase : ℕ) (ignoring : Bool) (taken start commit : ℕ) (reads : Lis
       let entries = padded-next noRead reads readCapacity e h in
       λ i. withReads (busyRecord phase ignoring taken start commit reads writes) (count i) (entries i)
 
-  pub busy-writable : (e : WriteEntry) → length writes ≤ writeCapacity → length (putWrite e writes) ≤ writeCapacity
-      → Writable (busyRecord phase ignoring taken start commit reads writes) e
-  busy-writable e h k =
-      record { counted = h; unused = sym (ap paddedWrites busy-writeLog); room = rw busy-writeLog k }
+  pub busy-writable : (e : WriteEntry) → length writes ≤ writeCapacity → pairwise (λ (x y : WriteEntry). ltb (x .cell) (y .cell)) writes ≡ true
+      → length (putWrite e writes) ≤ writeCapacity → Writable (busyRecord phase ignoring taken start commit reads writes) e
+  busy-writable e h up k =
+      record { counted = h; unused = sym (ap paddedWrites busy-writeLog); ascending = rw busy-writeLog up; room = rw busy-writeLog k }
 
   pub busy-written : (e : WriteEntry)
       → written (busyRecord phase ignoring taken start commit reads writes) e ≡ busyRecord phase ignoring taken start commit reads (putWrite e writes)
@@ -50,9 +47,6 @@ module _ (phase : ℕ) (ignoring : Bool) (taken start commit : ℕ) (reads : Lis
       busy-writeLog
 
   -- the phases
-  pub busy-closed : closed (busyRecord phase ignoring taken start commit reads writes) ≡ busyRecord 2 ignoring taken start commit reads writes
-  busy-closed = refl
-
   pub busy-locked : lockedOne (busyRecord phase ignoring taken start commit reads writes) ≡ busyRecord phase ignoring (suc taken) start commit reads writes
   busy-locked = ap (λ (k : ℕ). busyRecord phase ignoring k start commit reads writes) (add-one taken)
 

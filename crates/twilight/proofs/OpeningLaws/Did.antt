@@ -1,4 +1,4 @@
--- What each kind of way out comes to on the area: a refusal keeps it; an answer that changes nothing keeps it too, since its state packs to it; a store packs the next state.
+-- What a store comes to on the area: the record of the next slot packs the next state.
 use mathlib.Core.List.{List}
 use mathlib.Core.Path.{_≡_, refl, _∙_, ap}
 use Prim.Native.Nat.{ℕ}
@@ -7,18 +7,10 @@ use Rattle.slot.specs.declared.SlotRecord.{SlotRecord}
 use Rattle.rules.specs.Model.{controller}
 use Rattle.rules.specs.State.{Slot, turn}
 use Rattle.rules.specs.Layout.{lay, view, pack, stateOf}
-use Rattle.rules.specs.Outcome.{Outcome, refused, accepted}
+use Rattle.rules.specs.Outcome.{Outcome, accepted}
 use Rattle.rules.specs.declared.Cell.{Cell}
 use Rattle.rules.proofs.LayView.{view-lay}
-use Rattle.area.specs.Good.{Good}
-use Rattle.area.proofs.Good.{good-kept}
 use Rattle.twilight.specs.Did.{Did}
-
-pub refusal : {o : Outcome} {l : List ℕ} {r : Reply} → o ≡ refused r → Did o l r l
-refusal e = rw e (record { reply = refl; bytes = refl })
-
-pub unchanged : {o : Outcome} {l : List ℕ} {r : Reply} → Good l → o ≡ accepted r (stateOf controller l) → Did o l r l
-unchanged {o} {l} good e = rw e (record { reply = refl; bytes = good-kept l good })
 
 -- w is the record of the slot y
 pub record Laid (w : SlotRecord) (y : Slot) : Type 0 where
@@ -35,7 +27,3 @@ pub stored : {o : Outcome} {l a : List ℕ} {r : Reply} {w : SlotRecord} {y : Sl
 stored {l = l} {y = y} i clock cells e laid put =
     rw e
     (record { reply = refl; bytes = put ∙ ap (λ (z : Slot). pack controller (turn (stateOf controller l) i clock cells z)) (ap view (laid .is) ∙ view-lay y) })
-
--- a step that goes on as another
-pub onward : {o p : Outcome} {l a : List ℕ} {r : Reply} → o ≡ p → Did p l r a → Did o l r a
-onward e d = rw e d

@@ -18,14 +18,14 @@ use Rattle.slot.proofs.Logic.{and-left, and-right, all-at}
 use Rattle.rules.specs.Model.{controller}
 use Rattle.rules.specs.State.{Slot, idle, opened, locking, twilight, publishing, slotAt, readsOf, writesOf, startOf}
 use Rattle.rules.specs.LogsRight.{loggedRight, readsRight, writesRight}
-use Rattle.rules.specs.StateRight.{slotRight, stateRightButHolders}
+use Rattle.rules.specs.StateRight.{slotRight}
 use Rattle.rules.specs.Layout.{lay, view, countIn, stateOf}
 use Rattle.rules.specs.declared.Cell.{Cell}
 use Rattle.rules.proofs.LayView.{write-log}
 use Rattle.rules.proofs.StateSized.{LogsHold, logs-hold}
-use Rattle.rules.proofs.RoundTrip.{state-right, state-but-holders}
-use Rattle.rules.proofs.AreaRead.{count-read, slots-read}
+use Rattle.rules.proofs.AreaRead.{count-read}
 use Rattle.area.specs.Good.{Good}
+use Rattle.area.proofs.Logged.{slot-holds}
 use Rattle.twilight.proofs.OpeningLaws.Did.{storable}
 use Rattle.twilight.proofs.OpeningLaws.Phase.{write-count}
 
@@ -43,14 +43,6 @@ logs-of cells clock (opened start reads writes) p = logs-hold cells clock start 
 logs-of cells clock (locking taken start reads writes) p = logs-hold cells clock start reads writes (and-left _ _ p)
 logs-of cells clock (twilight ignoring start commit reads writes) p = logs-hold cells clock start reads writes (and-left _ _ p)
 logs-of cells clock (publishing ignoring taken start commit reads writes) p = logs-hold cells clock start reads writes (and-left _ _ p)
-
-slot-right : (l : List ℕ) → Good l → (i : ℕ) → i < 8
-    → slotRight (stateOf controller l .cells) (stateOf controller l .clock) (slotAt (stateOf controller l) i) ≡ true
-unfolding stateRightButHolders
-slot-right l good i below =
-    let right = state-but-holders controller (stateOf controller l) (state-right controller l (good .bytes) (good .right)) in
-    all-at (slotRight (stateOf controller l .cells) (stateOf controller l .clock)) (stateOf controller l .slots) idle
-    (and-left _ _ (and-right _ _ (and-right _ _ (and-right _ _ right)))) i (rw (slots-read controller l) below)
 
 -- v is the record of a slot whose logs hold
 module _ (l : List ℕ) (clock : ℕ) (x : Slot) (logs : LogsHold (stateOf controller l .cells) clock (startOf x) (readsOf x) (writesOf x))
@@ -80,4 +72,4 @@ module _ (l : List ℕ) (clock : ℕ) (x : Slot) (logs : LogsHold (stateOf contr
 pub known : {l : List ℕ} {i : ℕ} {v : SlotRecord} → Good l → i < 8 → v ≡ lay (slotAt (stateOf controller l) i) → Known l v
 known {l} {i} {v} good below laid =
     from-logs l (stateOf controller l .clock) (slotAt (stateOf controller l) i)
-    (logs-of (stateOf controller l .cells) (stateOf controller l .clock) (slotAt (stateOf controller l) i) (slot-right l good i below)) v laid
+    (logs-of (stateOf controller l .cells) (stateOf controller l .clock) (slotAt (stateOf controller l) i) (slot-holds l good i below)) v laid

@@ -46,7 +46,7 @@ module _ {l : List ℕ} {v : SlotRecord} (k : Known l v) (p : v .phase ≡ 1) wh
       let count : v .writecount ≡ length (writeLog v) = ap (λ (u : SlotRecord). u .writecount) as-open in
       let few : length (writeLog v) ≤ writeCapacity = rw (← count) (k .writesFew) in
       rw as-open
-      (busy-writable 1 false 0 (v .start) 0 (readLog v) (writeLog v) e few (room e writeCapacity (writeLog v) (k .ascending) few (rw (← count, ← asked) free)))
+      (busy-writable 1 false 0 (v .start) 0 (readLog v) (writeLog v) e few (k .ascending) (room e writeCapacity (writeLog v) (k .ascending) few (rw (← count, ← asked) free)))
 
   pub written-next : (e : WriteEntry) → {w : SlotRecord} → w ≡ written v e → Laid w (opened (v .start) (readLog v) (putWrite e (writeLog v)))
   written-next e made =

@@ -3,12 +3,14 @@ use mathlib.Core.Bool.{cond}
 use mathlib.Core.List.{List}
 use mathlib.Core.Path.{_≡_, refl, sym, ap, ap₂}
 use Prim.Native.Nat.{ℕ}
+use native.Mathlib.Omega.{arith}
 use lib.Dec.{eqb}
 use lib.ListN.{length}
 use Rattle.call.specs.declared.Reply.the-variants.{NotAllowed}
 use Rattle.slot.specs.declared.ReadEntry.{ReadEntry}
 use Rattle.slot.specs.declared.WriteEntry.{WriteEntry}
 use Rattle.slot.specs.declared.SlotRecord.{SlotRecord}
+use Rattle.slot.specs.Layout.{empty}
 use Rattle.slot.specs.Logs.{readLog, writeLog, busyRecord}
 use Rattle.rules.specs.State.{Slot, idle, opened, locking, twilight, publishing}
 use Rattle.rules.specs.Layout.{lay}
@@ -69,3 +71,11 @@ module _ (v : SlotRecord) (x : Slot) (laid : v ≡ lay x) where
 
   pub write-count : length (writeLog v) ≡ v .writecount
   write-count = ap (λ (u : SlotRecord). u .writecount) parts
+
+-- phase 0 is that of the idle slot alone, whose record is empty
+pub empty-phase : (x : Slot) → lay x .phase ≡ 0 → lay x ≡ empty
+empty-phase idle p = refl
+empty-phase (opened start reads writes) p = absurd (omega (arith, p))
+empty-phase (locking taken start reads writes) p = absurd (omega (arith, p))
+empty-phase (twilight ignoring start commit reads writes) p = absurd (omega (arith, p))
+empty-phase (publishing ignoring taken start commit reads writes) p = absurd (omega (arith, p))

@@ -93,23 +93,23 @@ module _ (M : Model) (S : State) (i : ℕ) (v : SlotRecord) (laid : v ≡ lay (s
     pub lock-none : v .writecount ≤ v .taken → lock M S i ≡ refused NotAllowed
     lock-none h = missing ∙ stops _ _ (le-leb _ _ h)
 
-    module _ (some-missing : v .taken < v .writecount) (x : Cell) (there : x ≡ cellAt S (getD (v .writes) (v .taken) noWrite .cell))
+    module _ (some-missing : v .taken < v .writecount) (e : WriteEntry) (entry : getD (v .writes) (v .taken) noWrite ≡ e) (x : Cell) (there : x ≡ cellAt S (e .cell))
         {held : Bool} (asked : held ≡ heldByOther i x) where
-      pub lock-11 : held ≡ true → lock M S i ≡ refused (LockHeld (getD (v .writes) (v .taken) noWrite .cell) (x .holder))
+      pub lock-11 : held ≡ true → lock M S i ≡ refused (LockHeld (e .cell) (x .holder))
       unfolding next
       lock-11 h =
           missing ∙ passes _ _ (lt-leb _ _ some-missing)
-          ∙ rw (getD-take (v .writecount) (v .writes) (v .taken) noWrite some-missing, ← there, ← asked, h)
+          ∙ rw (getD-take (v .writecount) (v .writes) (v .taken) noWrite some-missing, entry, ← there, ← asked, h)
 
       pub lock-0 : held ≡ false
           → lock M S i
           ≡ accepted Done
-          (turn S i (S .clock) (set (S .cells) (getD (v .writes) (v .taken) noWrite .cell) (record { kind = x .kind; holder = i + 1; word = x .word; stamp = x .stamp }))
+          (turn S i (S .clock) (set (S .cells) (e .cell) (record { kind = x .kind; holder = i + 1; word = x .word; stamp = x .stamp }))
           (locking (suc (v .taken)) (v .start) (readLog v) (writeLog v)))
       unfolding next
       lock-0 h =
           missing ∙ passes _ _ (lt-leb _ _ some-missing)
-          ∙ rw (getD-take (v .writecount) (v .writes) (v .taken) noWrite some-missing, ← there, ← asked, h, add-one)
+          ∙ rw (getD-take (v .writecount) (v .writes) (v .taken) noWrite some-missing, entry, ← there, ← asked, h, add-one)
 
   pub read-4 : (c : ℕ) → (v .phase ≡ 1 → ⊥) → read M S i c ≡ refused NotAllowed
   unfolding read

@@ -53,7 +53,7 @@ module _ (M : Model) (S : State) (i : ℕ) {v : SlotRecord} (here : v ≡ lay (s
       unfolding finish
       finish-0 never made = rw (is-twilight (slotAt S i) v here p, ← unsound, never, finished-stands (slotAt S i) v here p made .viewed)
 
-  pub publish-0 : {e : WriteEntry} {x : Cell} {w : SlotRecord} → v .phase ≡ 4 → getD (writeLog v) (v .taken) noWrite ≡ e → x ≡ cellAt S (e .cell) → w ≡ publishedOne v
-      → publish M S i ≡ accepted Done (turn S i (S .clock) (set (S .cells) (e .cell) (publishedAs (e .word) (v .commit) x)) (view w))
+  pub publish-0 : {e : WriteEntry} {x : Cell} {stamp : ℕ} {w : SlotRecord} → v .phase ≡ 4 → getD (writeLog v) (v .taken) noWrite ≡ e → x ≡ cellAt S (e .cell) → stamp ≡ v .commit
+      → w ≡ publishedOne v → publish M S i ≡ accepted Done (turn S i (S .clock) (set (S .cells) (e .cell) (publishedAs (e .word) stamp x)) (view w))
   unfolding publish
-  publish-0 p entry cell made = rw (is-publishing (slotAt S i) v here p, entry, cell, published-stands (slotAt S i) v here p made .viewed)
+  publish-0 p entry cell commit made = rw (is-publishing (slotAt S i) v here p, entry, cell, commit, published-stands (slotAt S i) v here p made .viewed)

@@ -23,7 +23,7 @@ use Rattle.rules.specs.State.{State, twilight, cellCount, cellAt, slotAt, turn}
 use Rattle.rules.specs.Layout.{lay, view}
 use Rattle.rules.specs.Outcome.{refused, accepted, inLog}
 use Rattle.rules.specs.Steps.{reread, update, illegalUpdate, ask}
-use Rattle.twilight.proofs.ZoneLaws.Found.{read-sought, write-sought}
+use Rattle.twilight.proofs.Found.{read-sought, write-sought}
 use Rattle.twilight.proofs.ZoneLaws.Phase.{is-twilight, not-twilight}
 use Rattle.twilight.proofs.ZoneLaws.Record.{updated-stands}
 

@@ -4,7 +4,6 @@ use mathlib.Core.Bool.{Bool}
 use mathlib.Core.List.{List}
 use mathlib.Core.Path.{_≡_, refl, sym, _∙_, ap}
 use Prim.Native.Nat.{ℕ}
-use lib.ListN.{length}
 use Rattle.call.specs.declared.Reply.the-variants.{NotAllowed}
 use Rattle.slot.specs.declared.ReadEntry.{ReadEntry}
 use Rattle.slot.specs.declared.WriteEntry.{WriteEntry}
@@ -13,22 +12,11 @@ use Rattle.slot.specs.Logs.{readLog, writeLog}
 use Rattle.rules.specs.State.{Slot, idle, opened, locking, twilight, publishing}
 use Rattle.rules.specs.Layout.{lay, view}
 use Rattle.rules.specs.Outcome.{Outcome, refused, whenLocking, whenTwilight, whenPublishing}
-use Rattle.rules.proofs.LayView.{view-lay, write-log}
+use Rattle.rules.proofs.LayView.{view-lay}
 
 module _ (x : Slot) (v : SlotRecord) (here : v ≡ lay x) where
   slot-of : x ≡ view v
   slot-of = sym (view-lay x) ∙ ap view (sym here)
-
-  -- a log is as long as its count says
-  pub write-count : length (writeLog v) ≡ v .writecount
-  write-count = rw here (counted x)
-    where
-      counted : (y : Slot) → length (writeLog (lay y)) ≡ lay y .writecount
-      counted idle = refl
-      counted (opened start reads writes) = ap length (write-log (opened start reads writes))
-      counted (locking taken start reads writes) = ap length (write-log (locking taken start reads writes))
-      counted (twilight ignoring start commit reads writes) = ap length (write-log (twilight ignoring start commit reads writes))
-      counted (publishing ignoring taken start commit reads writes) = ap length (write-log (publishing ignoring taken start commit reads writes))
 
   pub is-locking : v .phase ≡ 2 → x ≡ locking (v .taken) (v .start) (readLog v) (writeLog v)
   unfolding view

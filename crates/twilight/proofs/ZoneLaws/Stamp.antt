@@ -22,8 +22,9 @@ use Rattle.rules.specs.Steps.{enter, reload}
 use Rattle.area.specs.declared.Obstacle.{Obstacle}
 use Rattle.area.specs.declared.Obstacle.the-variants.{Held, Clear}
 use Rattle.area.specs.Reload.{obstacleOf}
-use Rattle.twilight.proofs.ZoneLaws.Found.{held-refused, clear-none}
-use Rattle.twilight.proofs.ZoneLaws.Phase.{write-count, is-locking, is-twilight, not-locking, not-twilight}
+use Rattle.twilight.proofs.Found.{held-refused, clear-none}
+use Rattle.twilight.proofs.OpeningLaws.Phase.{write-count}
+use Rattle.twilight.proofs.ZoneLaws.Phase.{is-locking, is-twilight, not-locking, not-twilight}
 use Rattle.twilight.proofs.ZoneLaws.Record.{entered-stands, reloaded-stands}
 
 -- slot i's record is v
@@ -42,7 +43,7 @@ module _ (M : Model) (S : State) (i : ℕ) {v : SlotRecord} (here : v ≡ lay (s
         (accepted (Verdict (not (someMarked (map (withMark S i (v .start)) (readLog v)))))
         (turn S i (suc (S .clock)) (S .cells) (twilight false (v .start) (suc (S .clock)) (map (withMark S i (v .start)) (readLog v)) (writeLog v)))))
     unfolding enter
-    at-locking = rw (is-locking (slotAt S i) v here p, write-count (slotAt S i) v here)
+    at-locking = rw (is-locking (slotAt S i) v here p, write-count v (slotAt S i) here)
 
     -- some cell is missing
     pub enter-missing : v .taken < v .writecount → enter M S i ≡ refused NotAllowed

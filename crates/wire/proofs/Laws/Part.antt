@@ -174,3 +174,33 @@ splice-record d size encode sized n xs i v e h =
     ap (λ x. splice (cat n (λ j. encode (getD xs j d))) (size * i) (encode x)) (sym new)
     ∙ splice-cat size n (λ j. encode (getD xs j d)) (λ j. encode (getD (set xs i v) j d)) (λ j b. sized (getD xs j d)) i h (sized (getD (set xs i v) i d))
     (λ j b apart. ap encode (getD-set-other xs i j v d apart))
+
+-- a part of three parts
+in-three : (a : List ℕ) (at : ℕ) (p m r : List ℕ) → splice a at (p ++ m ++ r) ≡ take at a ++ (p ++ (m ++ (r ++ drop (at + length (p ++ m ++ r)) a)))
+unfolding splice
+in-three a at p m r = simp append-assoc
+
+-- a part put anew inside a part that was put: what stands before and behind it stays
+pub splice-within : (a : List ℕ) (at : ℕ) (p m r q : List ℕ) (j : ℕ) → at ≤ length a → j + length q ≤ length m
+    → splice (splice a at (p ++ m ++ r)) (at + (length p + j)) q ≡ splice a at (p ++ splice m j q ++ r)
+splice-within a at p m r q j h fits =
+    let front = take at a in
+    let rest = drop (at + length (p ++ m ++ r)) a in
+    let place : at + (length p + j) ≡ length front + (length p + j) = rw (length-take-le at a h) in
+    let size : length (p ++ m ++ r) ≡ length (p ++ splice m j q ++ r) = simp (length-append, length-splice m j q fits) in
+    ap (λ (x : List ℕ). splice x (at + (length p + j)) q) (in-three a at p m r)
+    ∙ ap (λ (k : ℕ). splice (front ++ (p ++ (m ++ (r ++ rest)))) k q) place
+    ∙ splice-right front (p ++ (m ++ (r ++ rest))) (length p + j) q
+    ∙ ap (λ (x : List ℕ). front ++ x) (splice-right p (m ++ (r ++ rest)) j q)
+    ∙ ap (λ (x : List ℕ). front ++ (p ++ x)) (splice-left m (r ++ rest) j q fits)
+    ∙ ap (λ (n : ℕ). front ++ (p ++ (splice m j q ++ (r ++ drop (at + n) a)))) size
+    ∙ sym (in-three a at p (splice m j q) r)
+
+-- the front of a part put anew
+pub splice-front : (a : List ℕ) (at : ℕ) (m r q : List ℕ) → at ≤ length a → length q ≡ length m
+    → splice (splice a at (m ++ r)) at q ≡ splice a at (q ++ r)
+splice-front a at m r q h same =
+    let place : at ≡ at + (0 + 0) = omega arith in
+    ap (λ (k : ℕ). splice (splice a at (m ++ r)) k q) place
+    ∙ splice-within a at [] m r q 0 h (omega arith)
+    ∙ ap (λ (x : List ℕ). splice a at (x ++ r)) (splice-whole m q same)

@@ -1,74 +1,103 @@
--- `written` meets its contract: at the place of the cell its entry is replaced, or inserted where none of the cell stands.
-use mathlib.Core.Logic.{⊎-elim}
-use mathlib.Core.Path.{_≡_, ap, _∙_}
-use Prim.Native.Nat.{_+_, _<_}
+-- `written` meets its contract: before each turn the log is done up to place `i`, and what is carried is still to be put into the rest.
+use mathlib.Core.Path.{ap}
+use Prim.Native.Nat.{_-_}
 use native.Mathlib.Omega.{arith}
 use borrow.Author.Needs.{needs}
-use lib.ListN.{getD}
-use Rattle.slot.specs.Layout.{noWrite}
-use Rattle.slot.specs.Operations.{withWrites}
-use Rattle.slot.proofs.Insert.{place-counted, has-room, written-replaced, written-inserted}
+use Rattle.slot.specs.declared.SlotRecord.{SlotRecord}
+use Rattle.slot.proofs.Carry.{Carried, carry-start, carry-next, carry-same, carry-room, carry-end}
 use Rattle.slot.proofs.SlotRecord.written.Statement.{statement}
 use Rattle.slot.proofs.SlotRecord.written.Tie as tie
 
-cast-count : tie.Need-cast-count
+abbrev Inv-loop : tie.InvT-loop
+Inv-loop self₀ count carried₀ i₀ self carried i = Carried self₀ carried₀ self carried i
+
+abbrev μ-loop : tie.MeasureT-loop
+μ-loop self₀ count carried₀ i₀ self carried i = count - i
+
+cast-count : tie.Need-cast-count Inv-loop μ-loop
 cast-count c = search needs
 
-place-requires : tie.Need-place-requires
-place-requires c κs = search needs
+loop-holds : tie.Need-loop-holds Inv-loop μ-loop
+loop-holds c = carry-start (c .args .t1) (c .args .e) (c .pre)
 
-mul-if2 : tie.Need-mul-if2
-mul-if2 c = search needs
+mul-here : tie.Need-mul-here Inv-loop μ-loop
+mul-here c = let k = (c .before .loop .inv) in let able = (c .before .before .pre) in omega arith
 
-element-copy-out-if2 : tie.Need-element-copy-out-if2
-element-copy-out-if2 c = search needs
+element-copy-out-here : tie.Need-element-copy-out-here Inv-loop μ-loop
+element-copy-out-here c = let k = (c .before .loop .inv) in let able = (c .before .before .pre) in omega arith
 
-mul-e : tie.Need-mul-e
-mul-e c = search needs
+mul-carried : tie.Need-mul-carried Inv-loop μ-loop
+mul-carried c = let k = (c .before .before .before .before .before .loop .inv) in let able = (c .before .before .before .before .before .before .pre) in omega arith
 
-element-set-from-e : tie.Need-element-set-from-e
-element-set-from-e c = search needs
+element-set-from-carried : tie.Need-element-set-from-carried Inv-loop μ-loop
+element-set-from-carried c = let k = (c .before .before .before .before .before .loop .inv) in let able = (c .before .before .before .before .before .before .pre) in omega arith
 
-returns : tie.Need-returns
-returns c =
-    let place = c .before .before .place in
-    let start = c .before .before .before .before in
-    written-replaced (start .args .t1) (start .args .e) (start .pre) (place .result) (place .ensures) (c .before .if1 .taken) (c .if2 .taken)
+returns : tie.Need-returns Inv-loop μ-loop
+returns c = carry-same (c .before .before .before .before .before .before .args .t1) (c .before .before .before .before .before .before .args .e) (c .before .before .before .before .before .before .pre) (c .before .before .before .before .before .loop .self) (c .before .before .before .before .before .loop .carried) (c .before .before .before .before .before .loop .i) (c .before .before .before .before .before .loop .inv) (omega arith) (c .if1 .taken)
 
--- past the tests no entry of the cell stands at its place
-apart : (c : tie.Joined1) → c .before .place .result < c .before .before .before .args .t1 .writecount
-    → getD (c .before .before .before .args .t1 .writes) (c .before .place .result) noWrite .cell ≡ c .before .before .before .args .e .cell → ⊥
-apart c h q = ⊎-elim (λ w. w .1 .left q) (λ w. omega arith) (c .if1 .came)
+lower-requires : tie.Need-lower-requires Inv-loop μ-loop
+lower-requires c κs = search needs
 
-inserted-requires : tie.Need-inserted-requires
-inserted-requires c κs =
-    let place = c .before .place in
-    let start = c .before .before .before in (
-      place-counted (start .args .t1) (start .args .e) (start .pre) (place .result) (place .ensures),
-      has-room (start .args .t1) (start .args .e) (start .pre) (place .result) (place .ensures) (apart c),
-    )
+mul-t10 : tie.Need-mul-t10 Inv-loop μ-loop
+mul-t10 c = let k = (c .before .before .before .before .before .before .loop .inv) in let able = (c .before .before .before .before .before .before .before .pre) in omega arith
 
-add-self : tie.Need-add-self
-add-self c = search needs
+element-set-from-self : tie.Need-element-set-from-self Inv-loop μ-loop
+element-set-from-self c = let k = (c .before .before .before .before .before .before .loop .inv) in let able = (c .before .before .before .before .before .before .before .pre) in omega arith
 
-returns-2 : tie.Need-returns-2
-returns-2 c =
-    let place = c .before .before .place in
-    let start = c .before .before .before .before in
-    ap (withWrites (start .args .t1) (start .args .t1 .writecount + 1)) (c .inserted .ensures)
-    ∙ written-inserted (start .args .t1) (start .args .e) (start .pre) (place .result) (place .ensures) (apart (c .before))
+higher-requires : tie.Need-higher-requires Inv-loop μ-loop
+higher-requires c κs = search needs
+
+add-i : tie.Need-add-i Inv-loop μ-loop
+add-i c = let k = (c .before .before .before .before .before .before .before .loop .inv) in let able = (c .before .before .before .before .before .before .before .before .pre) in omega arith
+
+loop-less : tie.Need-loop-less Inv-loop μ-loop
+loop-less c = let k = (c .before .before .before .before .before .before .before .loop .inv) in let able = (c .before .before .before .before .before .before .before .before .pre) in omega arith
+
+loop-again : tie.Need-loop-again Inv-loop μ-loop
+loop-again c = carry-next (c .before .before .before .before .before .before .before .before .args .t1) (c .before .before .before .before .before .before .before .before .args .e) (c .before .before .before .before .before .before .before .before .pre) (c .before .before .before .before .before .before .before .loop .self) (c .before .before .before .before .before .before .before .loop .carried) (c .before .before .before .before .before .before .before .loop .i) (c .before .before .before .before .before .before .before .loop .inv) (omega arith) (c .before .before .if1 .left) _ _ (c .before .lower .ensures) (c .higher .ensures)
+
+mul-carried-2 : tie.Need-mul-carried-2 Inv-loop μ-loop
+mul-carried-2 c =
+    let room = carry-room (c .before .before .args .t1) (c .before .before .args .e) (c .before .before .pre) (c .before .loop .self) (c .before .loop .carried) (c .before .loop .i) (c .before .loop .inv) (omega arith) in
+    let k = (c .before .loop .inv) in
+    omega arith
+
+element-set-from-carried-2 : tie.Need-element-set-from-carried-2 Inv-loop μ-loop
+element-set-from-carried-2 c =
+    let room = carry-room (c .before .before .args .t1) (c .before .before .args .e) (c .before .before .pre) (c .before .loop .self) (c .before .loop .carried) (c .before .loop .i) (c .before .loop .inv) (omega arith) in
+    let k = (c .before .loop .inv) in
+    omega arith
+
+add-self : tie.Need-add-self Inv-loop μ-loop
+add-self c =
+    let count = ap (λ (u : SlotRecord). u .writecount) (c .before .loop .inv .same) in
+    let able = (c .before .before .pre) in
+    omega arith
+
+returns-2 : tie.Need-returns-2 Inv-loop μ-loop
+returns-2 c = carry-end (c .before .before .args .t1) (c .before .before .args .e) (c .before .before .pre) (c .before .loop .self) (c .before .loop .carried) (c .before .loop .i) (c .before .loop .inv) (omega arith)
 
 pub written-spec : {M : Type 1} → statement M
 written-spec =
     tie.close
     (tie.spec
+    Inv-loop
+    μ-loop
     cast-count
-    place-requires
-    mul-if2
-    element-copy-out-if2
-    mul-e
-    element-set-from-e
+    loop-holds
+    mul-here
+    element-copy-out-here
+    mul-carried
+    element-set-from-carried
     returns
-    inserted-requires
+    lower-requires
+    mul-t10
+    element-set-from-self
+    higher-requires
+    add-i
+    loop-less
+    loop-again
+    mul-carried-2
+    element-set-from-carried-2
     add-self
     returns-2)

@@ -1,20 +1,27 @@
--- `opening::begin` meets its contract: only an idle slot begins, and the record of an open slot with the clock as its start is stored.
+-- `opening::begin` meets its contract: only an idle slot begins, and the record of an open slot with the clock as its start is stored; an idle slot has no logs.
 use borrow.Author.Needs.{needs}
+use mathlib.Core.Path.{refl}
+use Rattle.slot.proofs.Laws.Fields.{begun-fields}
 use Rattle.rules.specs.Model.{controller}
-use Rattle.twilight.proofs.OpeningLaws.Did.{refusal, stored, storable}
+use Rattle.rules.specs.State.{slotAt}
+use Rattle.rules.specs.Layout.{stateOf}
+use Rattle.twilight.proofs.Fields.{other, same}
+use Rattle.twilight.proofs.Done.{refuses}
+use Rattle.twilight.proofs.OpeningLaws.Did.{stored, storable}
 use Rattle.twilight.proofs.OpeningLaws.Next.{begun-next}
+use Rattle.twilight.proofs.OpeningLaws.Phase.{empty-phase}
 use Rattle.twilight.proofs.OpeningLaws.Ways.{begin-4, begin-0}
 use Rattle.twilight.proofs.opening.begin.Statement.{statement}
 use Rattle.twilight.proofs.opening.begin.Tie as tie
 
-slot-at-requires : tie.Need-slot-at-requires
-slot-at-requires c κs = search needs
+phase-at-requires : tie.Need-phase-at-requires
+phase-at-requires c κs = search needs
 
 same-length : tie.Need-same-length
 same-length c = search needs
 
 returns : tie.Need-returns
-returns c = refusal (begin-4 controller _ _ _ (c .before .before .slot-at .ensures) (c .if1 .taken))
+returns c = refuses _ (begin-4 controller _ _ _ refl (other (c .before .phase-at .ensures) (c .if1 .taken)))
 
 clock-requires : tie.Need-clock-requires
 clock-requires c κs = search needs
@@ -22,27 +29,28 @@ clock-requires c κs = search needs
 begun-requires : tie.Need-begun-requires
 begun-requires c κs = search needs
 
-store-slot-requires : tie.Need-store-slot-requires
-store-slot-requires c κs = (search needs, search needs, storable (begun-next _ (c .begun .ensures)))
+store-fields-requires : tie.Need-store-fields-requires
+store-fields-requires c κs =
+    let idle = empty-phase (slotAt (stateOf controller (c .before .before .before .before .before .before .before .before .args .s .now)) (c .before .before .before .before .before .before .before .before .args .i)) (same (c .before .before .before .before .before .phase-at .ensures) (c .before .before .before .before .if1 .left)) in
+    (((c .before .before .before .before .before .before .before .before .pre .0), (c .before .before .before .before .before .before .before .before .pre .1)), storable (begun-next _ (begun-fields _ _ idle (c .begun .ensures))))
 
 same-length-2 : tie.Need-same-length-2
 same-length-2 c = search needs
 
 returns-2 : tie.Need-returns-2
 returns-2 c =
-    let at-rest = c .before .before .before .before .before .before .before in
-    stored _ _ _ (begin-0 controller _ _ _ (at-rest .before .before .slot-at .ensures) (at-rest .if1 .left) (c .before .before .before .before .before .clock .ensures))
-    (begun-next _ (c .before .before .before .begun .ensures)) (c .before .before .store-slot .ensures)
+    let idle = empty-phase (slotAt (stateOf controller (c .before .before .before .before .before .before .before .before .before .before .before .args .s .now)) (c .before .before .before .before .before .before .before .before .before .before .before .args .i)) (same (c .before .before .before .before .before .before .before .before .phase-at .ensures) (c .before .before .before .before .before .before .before .if1 .left)) in
+    stored _ _ _ (begin-0 controller _ _ _ refl (same (c .before .before .before .before .before .before .before .before .phase-at .ensures) (c .before .before .before .before .before .before .before .if1 .left)) (c .before .before .before .before .before .clock .ensures)) (begun-next _ (begun-fields _ _ idle (c .before .before .before .begun .ensures))) (c .before .before .store-fields .ensures)
 
 pub begin-spec : {M : Type 1} → statement M
 begin-spec =
     tie.close
     (tie.spec
-    slot-at-requires
+    phase-at-requires
     same-length
     returns
     clock-requires
     begun-requires
-    store-slot-requires
+    store-fields-requires
     same-length-2
     returns-2)

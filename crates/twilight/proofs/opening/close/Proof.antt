@@ -1,49 +1,55 @@
--- `opening::close` meets its contract: only an open slot closes, and its record in the locking phase is stored.
+-- `opening::close` meets its contract: only an open slot closes, and its fields are stored with the next phase.
 use borrow.Author.Needs.{needs}
+use mathlib.Core.Path.{refl}
+use Rattle.slot.proofs.Laws.Fields.{closed-fields}
 use Rattle.rules.specs.Model.{controller}
-use Rattle.twilight.proofs.OpeningLaws.Did.{refusal, stored, storable}
+use Rattle.twilight.proofs.Fields.{other, same}
+use Rattle.twilight.proofs.Done.{refuses}
+use Rattle.twilight.proofs.OpeningLaws.Did.{stored, storable}
 use Rattle.twilight.proofs.OpeningLaws.Known.{known}
 use Rattle.twilight.proofs.OpeningLaws.Next.{closed-next}
 use Rattle.twilight.proofs.OpeningLaws.Ways.{close-4, close-0}
 use Rattle.twilight.proofs.opening.close.Statement.{statement}
 use Rattle.twilight.proofs.opening.close.Tie as tie
 
-slot-at-requires : tie.Need-slot-at-requires
-slot-at-requires c κs = search needs
+phase-at-requires : tie.Need-phase-at-requires
+phase-at-requires c κs = search needs
 
 same-length : tie.Need-same-length
 same-length c = search needs
 
 returns : tie.Need-returns
-returns c = refusal (close-4 controller _ _ _ (c .before .before .slot-at .ensures) (c .if1 .taken))
+returns c = refuses _ (close-4 controller _ _ _ refl (other (c .before .phase-at .ensures) (c .if1 .taken)))
+
+fields-at-requires : tie.Need-fields-at-requires
+fields-at-requires c κs = search needs
 
 closed-requires : tie.Need-closed-requires
 closed-requires c κs = search needs
 
-store-slot-requires : tie.Need-store-slot-requires
-store-slot-requires c κs =
-    let opened = c .before .before in
-    let start = opened .before .before .before .before .before in
-    (search needs, search needs, storable (closed-next (known (start .pre .0) (start .pre .1) (opened .before .before .slot-at .ensures)) (opened .if1 .left) (c .closed .ensures)))
+store-fields-requires : tie.Need-store-fields-requires
+store-fields-requires c κs =
+    let k = known (c .before .before .before .before .before .before .before .before .pre .0) (c .before .before .before .before .before .before .before .before .pre .1) refl in
+    (((c .before .before .before .before .before .before .before .before .pre .0), (c .before .before .before .before .before .before .before .before .pre .1)), storable (closed-next k (same (c .before .before .before .before .before .phase-at .ensures) (c .before .before .before .before .if1 .left)) (closed-fields _ (c .before .before .fields-at .ensures) (c .closed .ensures))))
 
 same-length-2 : tie.Need-same-length-2
 same-length-2 c = search needs
 
 returns-2 : tie.Need-returns-2
 returns-2 c =
-    let opened = c .before .before .before .before .before in
-    let start = opened .before .before .before .before .before in
-    stored _ _ _ (close-0 controller _ _ _ (opened .before .before .slot-at .ensures) (opened .if1 .left))
-    (closed-next (known (start .pre .0) (start .pre .1) (opened .before .before .slot-at .ensures)) (opened .if1 .left) (c .before .before .before .closed .ensures)) (c .before .before .store-slot .ensures)
+    let k = known (c .before .before .before .before .before .before .before .before .before .before .before .pre .0) (c .before .before .before .before .before .before .before .before .before .before .before .pre .1) refl in
+    let p = same (c .before .before .before .before .before .before .before .before .phase-at .ensures) (c .before .before .before .before .before .before .before .if1 .left) in
+    stored _ _ _ (close-0 controller _ _ _ refl p) (closed-next k p (closed-fields _ (c .before .before .before .before .before .fields-at .ensures) (c .before .before .before .closed .ensures))) (c .before .before .store-fields .ensures)
 
 pub close-spec : {M : Type 1} → statement M
 close-spec =
     tie.close
     (tie.spec
-    slot-at-requires
+    phase-at-requires
     same-length
     returns
+    fields-at-requires
     closed-requires
-    store-slot-requires
+    store-fields-requires
     same-length-2
     returns-2)

@@ -1,20 +1,22 @@
--- `opening::illegal_write` meets its contract: a slot that is not open and a cell that is not there come first.
-use native.Mathlib.Omega.{arith}
+-- `opening::illegal_write` meets its contract: it is refused, by the lowest code that applies.
 use borrow.Author.Needs.{needs}
+use mathlib.Core.Path.{refl}
+use native.Mathlib.Omega.{arith}
 use Rattle.rules.specs.Model.{controller}
-use Rattle.twilight.proofs.OpeningLaws.Did.{refusal}
+use Rattle.twilight.proofs.Fields.{other, same}
+use Rattle.twilight.proofs.Done.{refuses}
 use Rattle.twilight.proofs.OpeningLaws.Ways.{illegal-write-4, illegal-write-5, illegal-write-6}
 use Rattle.twilight.proofs.opening.illegal_write.Statement.{statement}
 use Rattle.twilight.proofs.opening.illegal_write.Tie as tie
 
-slot-at-requires : tie.Need-slot-at-requires
-slot-at-requires c κs = search needs
+phase-at-requires : tie.Need-phase-at-requires
+phase-at-requires c κs = search needs
 
 same-length : tie.Need-same-length
 same-length c = search needs
 
 returns : tie.Need-returns
-returns c = refusal (illegal-write-4 controller _ _ _ (c .before .before .slot-at .ensures) _ (c .if1 .taken))
+returns c = refuses _ (illegal-write-4 controller _ _ _ refl _ (other (c .before .phase-at .ensures) (c .if1 .taken)))
 
 count-requires : tie.Need-count-requires
 count-requires c κs = search needs
@@ -23,19 +25,19 @@ same-length-2 : tie.Need-same-length-2
 same-length-2 c = search needs
 
 returns-2 : tie.Need-returns-2
-returns-2 c = refusal (illegal-write-5 controller _ _ _ (c .before .before .before .before .before .slot-at .ensures) (c .before .before .before .if1 .left) _ (omega (arith, c .before .count .ensures)))
+returns-2 c = refuses _ (illegal-write-5 controller _ _ _ refl (same (c .before .before .before .before .phase-at .ensures) (c .before .before .before .if1 .left)) _ (omega (arith, (c .before .count .ensures))))
 
 same-length-3 : tie.Need-same-length-3
 same-length-3 c = search needs
 
 returns-3 : tie.Need-returns-3
-returns-3 c = refusal (illegal-write-6 controller _ _ _ (c .before .before .before .before .before .slot-at .ensures) (c .before .before .before .if1 .left) _ (omega (arith, c .before .count .ensures)))
+returns-3 c = refuses _ (illegal-write-6 controller _ _ _ refl (same (c .before .before .before .before .phase-at .ensures) (c .before .before .before .if1 .left)) _ (omega (arith, (c .before .count .ensures))))
 
 pub illegal-write-spec : {M : Type 1} → statement M
 illegal-write-spec =
     tie.close
     (tie.spec
-    slot-at-requires
+    phase-at-requires
     same-length
     returns
     count-requires

@@ -1,17 +1,32 @@
--- `opening::no_room` meets its contract: a log with room is no obstacle, and of a full one the search says whether it has the cell.
+-- `opening::no_room` meets its contract: a log with room for another entry has room for any; a full one only for an entry of a cell that it has.
 use borrow.Author.Needs.{needs}
+use Prim.Native.Nat.{_<_, _≤_}
+use native.Mathlib.Omega.{arith}
 use borrow.Author.Tests.{lt-leb, le-leb}
+use Rattle.slot.specs.Layout.{writeCapacity}
 use Rattle.slot.specs.Logic.{_and_}
 use Rattle.slot.proofs.Logic.{and-false}
-use Rattle.twilight.proofs.OpeningLaws.Found.{write-found, write-missing, cell-found, cell-missing}
+use Rattle.rules.specs.Model.{controller}
+use Rattle.rules.specs.State.{slotAt}
+use Rattle.rules.specs.Layout.{lay, stateOf}
+use Rattle.twilight.proofs.Fields.{fields}
+use Rattle.twilight.proofs.OpeningLaws.Found.{cell-found, cell-missing}
+use Rattle.twilight.proofs.Found.{write-sought}
 use Rattle.twilight.proofs.opening.no_room.Statement.{statement}
 use Rattle.twilight.proofs.opening.no_room.Tie as tie
+
+fields-at-requires : tie.Need-fields-at-requires
+fields-at-requires c κs = search needs
 
 cast-if1 : tie.Need-cast-if1
 cast-if1 c = search needs
 
 returns : tie.Need-returns
-returns c = rw (lt-leb _ _ (c .if1 .taken), and-false)
+returns c =
+    let v = lay (slotAt (stateOf controller (c .before .before .before .before .args .s .now)) (c .before .before .before .before .args .i)) in
+    let f = fields v (c .before .before .fields-at .ensures) in
+    let room : v .writecount < writeCapacity = omega (arith, (c .if1 .taken)) in
+    rw (lt-leb writeCapacity (v .writecount) room, and-false)
 
 find-write-requires : tie.Need-find-write-requires
 find-write-requires c κs = search needs
@@ -24,13 +39,25 @@ enum-told-2 c = search needs
 
 returns-2 : tie.Need-returns-2
 unfolding _and_
-returns-2 c = rw (cell-found _ _ _ (write-found _ _ (c .before .before .find-write .ensures) (c .enum-told .given .1)))
+returns-2 c = rw (cell-found _ _ _ (write-sought _ (c .before .before .find-write .ensures) (c .enum-told .given .1)))
 
 returns-3 : tie.Need-returns-3
 unfolding _and_
-returns-3 c = rw (cell-missing _ _ (write-missing _ (c .before .before .find-write .ensures) (c .enum-told2 .given .1)), le-leb _ _ (c .before .before .before .if1 .left))
+returns-3 c =
+    let v = lay (slotAt (stateOf controller (c .before .before .before .before .before .before .before .args .s .now)) (c .before .before .before .before .before .before .before .args .i)) in
+    let f = fields v (c .before .before .before .before .before .fields-at .ensures) in
+    let full : writeCapacity ≤ v .writecount = omega (arith, (c .before .before .before .if1 .left)) in
+    rw (cell-missing _ _ (write-sought _ (c .before .before .find-write .ensures) (c .enum-told2 .given .1)), le-leb writeCapacity (v .writecount) full)
 
 pub no-room-spec : {M : Type 1} → statement M
 no-room-spec =
     tie.close
-    (tie.spec cast-if1 returns find-write-requires enum-told enum-told-2 returns-2 returns-3)
+    (tie.spec
+    fields-at-requires
+    cast-if1
+    returns
+    find-write-requires
+    enum-told
+    enum-told-2
+    returns-2
+    returns-3)

@@ -1,78 +1,68 @@
 -- Only a slot in twilight finishes: a spoilt transaction leaves an empty record and no held cell, any other one the record that publishing starts from.
 use borrow.Author.Needs.{needs}
+use mathlib.Core.Path.{refl}
+use Rattle.slot.proofs.Laws.Fields.{finished-fields}
 use Rattle.rules.specs.Model.{controller}
 use Rattle.rules.specs.State.{slotAt}
 use Rattle.area.specs.Good.{stateIn}
+use Rattle.twilight.proofs.Fields.{other, same}
 use Rattle.twilight.proofs.ZoneLaws.Commit.{finish-4, finish-13, finish-0}
-use Rattle.twilight.proofs.ZoneLaws.Done.{refuses, leaves}
-use Rattle.twilight.proofs.ZoneLaws.Record.{empty-stands, finished-stands}
+use Rattle.twilight.proofs.Done.{refuses, leaves}
+use Rattle.twilight.proofs.ZoneLaws.Record.{finished-stands}
 use Rattle.twilight.proofs.zone.finish.Statement.{statement}
 use Rattle.twilight.proofs.zone.finish.Tie as tie
 
-slot-at-requires : tie.Need-slot-at-requires
-slot-at-requires c κs = search needs
+phase-at-requires : tie.Need-phase-at-requires
+phase-at-requires c κs = search needs
 
 same-length : tie.Need-same-length
 same-length c = search needs
 
 returns : tie.Need-returns
-returns c = refuses _ (finish-4 controller _ _ (c .before .before .slot-at .ensures) (c .if1 .taken))
+returns c = refuses _ (finish-4 controller _ _ refl (other (c .before .phase-at .ensures) (c .if1 .taken)))
 
 spoilt-requires : tie.Need-spoilt-requires
 spoilt-requires c κs = search needs
 
-empty-requires : tie.Need-empty-requires
-empty-requires c κs = search needs
-
-store-slot-freed-requires : tie.Need-store-slot-freed-requires
-store-slot-freed-requires c κs =
-    let kept = empty-stands (c .empty .ensures) .kept in
-    (search needs, search needs, kept)
+store-freed-requires : tie.Need-store-freed-requires
+store-freed-requires c κs = search needs
 
 same-length-2 : tie.Need-same-length-2
 same-length-2 c = search needs
 
 returns-2 : tie.Need-returns-2
-returns-2 c =
-    let zone = c .before .before .before .before .before .before .before in
-    leaves _ (finish-13 controller _ _ (zone .before .before .slot-at .ensures) (zone .if1 .left)
-    (c .before .before .before .before .before .before .spoilt .ensures) (c .before .before .before .before .before .if2 .taken)
-    (c .before .before .before .empty .ensures)) (c .before .before .store-slot-freed .ensures)
+returns-2 c = leaves _ (finish-13 controller _ _ refl (same (c .before .before .before .before .before .before .before .before .phase-at .ensures) (c .before .before .before .before .before .before .before .if1 .left)) (c .before .before .before .before .before .spoilt .ensures) (c .before .before .before .before .if2 .taken) refl) (c .before .before .store-freed .ensures)
+
+fields-at-requires : tie.Need-fields-at-requires
+fields-at-requires c κs = search needs
 
 finished-requires : tie.Need-finished-requires
 finished-requires c κs = search needs
 
-store-slot-requires : tie.Need-store-slot-requires
-store-slot-requires c κs =
-    let zone = c .before .before .before .before in
-    let start = zone .before .before .before .before .before in
-    let kept = finished-stands (slotAt (stateIn (start .args .s .now)) (start .args .i)) _ (zone .before .before .slot-at .ensures) (zone .if1 .left)
-    (c .finished .ensures) .kept in
-    (search needs, search needs, kept)
+store-fields-requires : tie.Need-store-fields-requires
+store-fields-requires c κs =
+    let x = slotAt (stateIn (c .before .before .before .before .before .before .before .before .before .before .before .args .s .now)) (c .before .before .before .before .before .before .before .before .before .before .before .args .i) in
+    (((c .before .before .before .before .before .before .before .before .before .before .before .pre .0), (c .before .before .before .before .before .before .before .before .before .before .before .pre .1)), finished-stands x _ refl (same (c .before .before .before .before .before .before .before .before .phase-at .ensures) (c .before .before .before .before .before .before .before .if1 .left)) (finished-fields _ (c .before .before .fields-at .ensures) (c .finished .ensures)) .kept)
 
 same-length-3 : tie.Need-same-length-3
 same-length-3 c = search needs
 
 returns-3 : tie.Need-returns-3
-returns-3 c =
-    let zone = c .before .before .before .before .before .before .before in
-    leaves _ (finish-0 controller _ _ (zone .before .before .slot-at .ensures) (zone .if1 .left)
-    (c .before .before .before .before .before .before .spoilt .ensures) (c .before .before .before .before .before .if2 .left)
-    (c .before .before .before .finished .ensures)) (c .before .before .store-slot .ensures)
+returns-3 c = leaves _ (finish-0 controller _ _ refl (same (c .before .before .before .before .before .before .before .before .before .before .before .phase-at .ensures) (c .before .before .before .before .before .before .before .before .before .before .if1 .left)) (c .before .before .before .before .before .before .before .before .spoilt .ensures) (c .before .before .before .before .before .before .before .if2 .left) (finished-fields _ (c .before .before .before .before .before .fields-at .ensures) (c .before .before .before .finished .ensures))) (c .before .before .store-fields .ensures)
 
 pub finish-spec : {M : Type 1} → statement M
 finish-spec =
     tie.close
     (tie.spec
-    slot-at-requires
+    phase-at-requires
     same-length
     returns
     spoilt-requires
-    empty-requires
-    store-slot-freed-requires
+    store-freed-requires
     same-length-2
     returns-2
+    fields-at-requires
     finished-requires
-    store-slot-requires
+    store-fields-requires
     same-length-3
     returns-3)

@@ -1,19 +1,21 @@
--- The phase and the cell are asked as for an update, and what is left is refused for its value.
+-- An update without a value is refused, by the lowest code that applies.
 use borrow.Author.Needs.{needs}
+use mathlib.Core.Path.{refl}
 use Rattle.rules.specs.Model.{controller}
-use Rattle.twilight.proofs.ZoneLaws.Done.{refuses}
+use Rattle.twilight.proofs.Fields.{other, same}
+use Rattle.twilight.proofs.Done.{refuses}
 use Rattle.twilight.proofs.ZoneLaws.Entry.{illegal-4, illegal-5, illegal-6}
 use Rattle.twilight.proofs.zone.illegal_update.Statement.{statement}
 use Rattle.twilight.proofs.zone.illegal_update.Tie as tie
 
-slot-at-requires : tie.Need-slot-at-requires
-slot-at-requires c κs = search needs
+phase-at-requires : tie.Need-phase-at-requires
+phase-at-requires c κs = search needs
 
 same-length : tie.Need-same-length
 same-length c = search needs
 
 returns : tie.Need-returns
-returns c = refuses _ (illegal-4 controller _ _ _ (c .before .before .slot-at .ensures) (c .if1 .taken))
+returns c = refuses _ (illegal-4 controller _ _ _ refl (other (c .before .phase-at .ensures) (c .if1 .taken)))
 
 count-requires : tie.Need-count-requires
 count-requires c κs = search needs
@@ -22,23 +24,19 @@ same-length-2 : tie.Need-same-length-2
 same-length-2 c = search needs
 
 returns-2 : tie.Need-returns-2
-returns-2 c =
-    let zone = c .before .before .before in
-    refuses _ (illegal-5 controller _ _ _ (zone .before .before .slot-at .ensures) (zone .if1 .left) (c .before .count .ensures) (c .if2 .taken))
+returns-2 c = refuses _ (illegal-5 controller _ _ _ refl (same (c .before .before .before .before .phase-at .ensures) (c .before .before .before .if1 .left)) (c .before .count .ensures) (c .if2 .taken))
 
 same-length-3 : tie.Need-same-length-3
 same-length-3 c = search needs
 
 returns-3 : tie.Need-returns-3
-returns-3 c =
-    let zone = c .before .before .before in
-    refuses _ (illegal-6 controller _ _ _ (zone .before .before .slot-at .ensures) (zone .if1 .left) (c .before .count .ensures) (c .if2 .left))
+returns-3 c = refuses _ (illegal-6 controller _ _ _ refl (same (c .before .before .before .before .phase-at .ensures) (c .before .before .before .if1 .left)) (c .before .count .ensures) (c .if2 .left))
 
 pub illegal-update-spec : {M : Type 1} → statement M
 illegal-update-spec =
     tie.close
     (tie.spec
-    slot-at-requires
+    phase-at-requires
     same-length
     returns
     count-requires

@@ -1,81 +1,98 @@
--- A publishing slot of a good area has a cell left, which is a cell of the area: the record after it is stored, and with it the published cell.
-use native.Mathlib.Omega.{arith}
+-- A publishing slot of a good area has a cell left, which is a cell of the area: the fields after it are stored, and with them the published cell.
 use borrow.Author.Needs.{needs}
+use mathlib.Core.Path.{_≡_, refl, sym, ap, _∙_}
+use Prim.Native.Nat.{ℕ}
+use native.Mathlib.Omega.{arith}
+use lib.ListN.{getD}
+use Rattle.slot.specs.Layout.{noWrite}
+use Rattle.slot.proofs.Laws.Fields.{published-fields}
 use Rattle.rules.specs.Model.{controller}
 use Rattle.rules.specs.State.{slotAt}
+use Rattle.rules.specs.Layout.{lay}
 use Rattle.area.specs.Good.{stateIn}
+use Rattle.twilight.proofs.Fields.{other, same, fields}
 use Rattle.twilight.proofs.ZoneLaws.Commit.{publish-4, publish-0}
-use Rattle.twilight.proofs.ZoneLaws.Done.{refuses, leaves}
+use Rattle.twilight.proofs.Done.{refuses, leaves}
 use Rattle.twilight.proofs.ZoneLaws.Record.{published-stands}
 use Rattle.twilight.proofs.ZoneLaws.Right.{next-of}
 use Rattle.twilight.proofs.zone.publish.Statement.{statement}
 use Rattle.twilight.proofs.zone.publish.Tie as tie
 
-slot-at-requires : tie.Need-slot-at-requires
-slot-at-requires c κs = search needs
+phase-at-requires : tie.Need-phase-at-requires
+phase-at-requires c κs = search needs
 
 same-length : tie.Need-same-length
 same-length c = search needs
 
 returns : tie.Need-returns
-returns c = refuses _ (publish-4 controller _ _ (c .before .slot-at .ensures) (c .if1 .taken))
+returns c = refuses _ (publish-4 controller _ _ refl (other (c .before .phase-at .ensures) (c .if1 .taken)))
 
-cast-taken : tie.Need-cast-taken
-cast-taken c = search needs
+fields-at-requires : tie.Need-fields-at-requires
+fields-at-requires c κs = search needs
 
-mul-e : tie.Need-mul-e
-mul-e c = search needs
-
-element-copy-out-e : tie.Need-element-copy-out-e
-element-copy-out-e c =
-    let start = c .before .before .before .before in
-    next-of _ (start .pre .0) _ (start .pre .1) _ (c .before .slot-at .ensures) (c .if1 .left) .left
+write-at-requires : tie.Need-write-at-requires
+write-at-requires c κs =
+    let l = (c .before .before .before .before .before .before .before .args .s .now) in
+    let v = lay (slotAt (stateIn l) (c .before .before .before .before .before .before .before .args .i)) in
+    let f = fields v (c .before .fields-at .ensures) in
+    let p = same (c .before .before .before .before .phase-at .ensures) (c .before .before .before .if1 .left) in
+    let next = next-of l (c .before .before .before .before .before .before .before .pre .0) (c .before .before .before .before .before .before .before .args .i) (c .before .before .before .before .before .before .before .pre .1) v refl p in
+    ((c .before .before .before .before .before .before .before .pre .0), (c .before .before .before .before .before .before .before .pre .1), omega arith)
 
 cell-at-requires : tie.Need-cell-at-requires
 cell-at-requires c κs =
-    let zone = c .before .before in
-    let start = zone .before .before .before .before in
-    (search needs, next-of _ (start .pre .0) _ (start .pre .1) _ (zone .before .slot-at .ensures) (zone .if1 .left) .inside)
+    let l = (c .before .before .before .before .before .before .before .before .before .args .s .now) in
+    let v = lay (slotAt (stateIn l) (c .before .before .before .before .before .before .before .before .before .args .i)) in
+    let f = fields v (c .before .before .before .fields-at .ensures) in
+    let p = same (c .before .before .before .before .before .before .phase-at .ensures) (c .before .before .before .before .before .if1 .left) in
+    let next = next-of l (c .before .before .before .before .before .before .before .before .before .pre .0) (c .before .before .before .before .before .before .before .before .before .args .i) (c .before .before .before .before .before .before .before .before .before .pre .1) v refl p in
+    let entry : getD (v .writes) (v .taken) noWrite ≡ (c .before .write-at .result) = sym ((c .before .write-at .ensures) ∙ ap (λ (n : ℕ). getD (v .writes) n noWrite) (f .taken)) in
+    ((c .before .before .before .before .before .before .before .before .before .pre .0), rw (← entry) (next .inside))
 
 published-one-requires : tie.Need-published-one-requires
 published-one-requires c κs =
-    let zone = c .before .before .before .before in
-    let start = zone .before .before .before .before in
-    let next = next-of _ (start .pre .0) _ (start .pre .1) _ (zone .before .slot-at .ensures) (zone .if1 .left) in
+    let l = (c .before .before .before .before .before .before .before .before .before .before .before .args .s .now) in
+    let v = lay (slotAt (stateIn l) (c .before .before .before .before .before .before .before .before .before .before .before .args .i)) in
+    let f = fields v (c .before .before .before .before .before .fields-at .ensures) in
+    let p = same (c .before .before .before .before .before .before .before .before .phase-at .ensures) (c .before .before .before .before .before .before .before .if1 .left) in
+    let next = next-of l (c .before .before .before .before .before .before .before .before .before .before .before .pre .0) (c .before .before .before .before .before .before .before .before .before .before .before .args .i) (c .before .before .before .before .before .before .before .before .before .before .before .pre .1) v refl p in
     omega arith
 
-store-slot-cell-requires : tie.Need-store-slot-cell-requires
-store-slot-cell-requires c κs =
-    let zone = c .before .before .before .before .before in
-    let start = zone .before .before .before .before in
-    let kept = published-stands (slotAt (stateIn (start .args .s .now)) (start .args .i)) _ (zone .before .slot-at .ensures) (zone .if1 .left)
-    (c .published-one .ensures) .kept in
-    let next = next-of _ (start .pre .0) _ (start .pre .1) _ (zone .before .slot-at .ensures) (zone .if1 .left) in
-    (search needs, search needs, kept, next .inside)
+store-fields-cell-requires : tie.Need-store-fields-cell-requires
+store-fields-cell-requires c κs =
+    let l = (c .before .before .before .before .before .before .before .before .before .before .before .before .args .s .now) in
+    let v = lay (slotAt (stateIn l) (c .before .before .before .before .before .before .before .before .before .before .before .before .args .i)) in
+    let f = fields v (c .before .before .before .before .before .before .fields-at .ensures) in
+    let p = same (c .before .before .before .before .before .before .before .before .before .phase-at .ensures) (c .before .before .before .before .before .before .before .before .if1 .left) in
+    let next = next-of l (c .before .before .before .before .before .before .before .before .before .before .before .before .pre .0) (c .before .before .before .before .before .before .before .before .before .before .before .before .args .i) (c .before .before .before .before .before .before .before .before .before .before .before .before .pre .1) v refl p in
+    let entry : getD (v .writes) (v .taken) noWrite ≡ (c .before .before .before .before .write-at .result) = sym ((c .before .before .before .before .write-at .ensures) ∙ ap (λ (n : ℕ). getD (v .writes) n noWrite) (f .taken)) in
+    let kept = published-stands (slotAt (stateIn l) (c .before .before .before .before .before .before .before .before .before .before .before .before .args .i)) v refl p (published-fields v (c .before .before .before .before .before .before .fields-at .ensures) p (c .published-one .ensures)) .kept in
+    (((c .before .before .before .before .before .before .before .before .before .before .before .before .pre .0), (c .before .before .before .before .before .before .before .before .before .before .before .before .pre .1), rw (← entry) (next .inside)), kept)
 
 same-length-2 : tie.Need-same-length-2
 same-length-2 c = search needs
 
 returns-2 : tie.Need-returns-2
 returns-2 c =
-    let zone = c .before .before .before .before .before .before .before .before in
-    let start = zone .before .before .before .before in
-    let next = next-of _ (start .pre .0) _ (start .pre .1) _ (zone .before .slot-at .ensures) (zone .if1 .left) in
-    leaves _ (publish-0 controller _ _ (zone .before .slot-at .ensures) (zone .if1 .left) (next .logged)
-    (c .before .before .before .before .before .cell-at .ensures) (c .before .before .before .published-one .ensures)) (c .before .before .store-slot-cell .ensures)
+    let l = (c .before .before .before .before .before .before .before .before .before .before .before .before .before .before .before .args .s .now) in
+    let v = lay (slotAt (stateIn l) (c .before .before .before .before .before .before .before .before .before .before .before .before .before .before .before .args .i)) in
+    let f = fields v (c .before .before .before .before .before .before .before .before .before .fields-at .ensures) in
+    let p = same (c .before .before .before .before .before .before .before .before .before .before .before .before .phase-at .ensures) (c .before .before .before .before .before .before .before .before .before .before .before .if1 .left) in
+    let next = next-of l (c .before .before .before .before .before .before .before .before .before .before .before .before .before .before .before .pre .0) (c .before .before .before .before .before .before .before .before .before .before .before .before .before .before .before .args .i) (c .before .before .before .before .before .before .before .before .before .before .before .before .before .before .before .pre .1) v refl p in
+    let entry : getD (v .writes) (v .taken) noWrite ≡ (c .before .before .before .before .before .before .before .write-at .result) = sym ((c .before .before .before .before .before .before .before .write-at .ensures) ∙ ap (λ (n : ℕ). getD (v .writes) n noWrite) (f .taken)) in
+    leaves _ (publish-0 controller _ _ refl p (next .logged ∙ entry) (c .before .before .before .before .before .cell-at .ensures) (f .commit) (published-fields v (c .before .before .before .before .before .before .before .before .before .fields-at .ensures) p (c .before .before .before .published-one .ensures))) (c .before .before .store-fields-cell .ensures)
 
 pub publish-spec : {M : Type 1} → statement M
 publish-spec =
     tie.close
     (tie.spec
-    slot-at-requires
+    phase-at-requires
     same-length
     returns
-    cast-taken
-    mul-e
-    element-copy-out-e
+    fields-at-requires
+    write-at-requires
     cell-at-requires
     published-one-requires
-    store-slot-cell-requires
+    store-fields-cell-requires
     same-length-2
     returns-2)

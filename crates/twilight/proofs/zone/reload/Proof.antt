@@ -1,30 +1,30 @@
--- Only a slot in twilight reloads, with nothing in its way and below the last stamp: its record with the reads taken anew and the next stamp is stored, and with it the clock.
+-- Only a slot in twilight reloads, if no other slot holds what it read, and below the last stamp: its fields with the next stamp are stored, its reads anew, and the clock.
 use borrow.Author.Needs.{needs}
+use mathlib.Core.Path.{refl}
+use Rattle.slot.proofs.Laws.Fields.{reloaded-alone}
 use Rattle.rules.specs.Cells.{reloaded}
 use Rattle.rules.specs.Model.{controller}
 use Rattle.rules.specs.State.{slotAt}
-use Rattle.area.proofs.Logged.{logged-of}
+use Rattle.rules.specs.Layout.{lay}
 use Rattle.area.specs.Good.{stateIn}
-use Rattle.twilight.proofs.ZoneLaws.Done.{refuses, leaves}
+use Rattle.twilight.proofs.Fields.{other, same}
+use Rattle.twilight.proofs.Done.{refuses, leaves}
 use Rattle.twilight.proofs.ZoneLaws.Record.{reloaded-stands}
 use Rattle.twilight.proofs.ZoneLaws.Stamp.{reload-4, reload-11, reload-12, reload-0}
 use Rattle.twilight.proofs.zone.reload.Statement.{statement}
 use Rattle.twilight.proofs.zone.reload.Tie as tie
 
-slot-at-requires : tie.Need-slot-at-requires
-slot-at-requires c κs = search needs
+phase-at-requires : tie.Need-phase-at-requires
+phase-at-requires c κs = search needs
 
 same-length : tie.Need-same-length
 same-length c = search needs
 
 returns : tie.Need-returns
-returns c = refuses _ (reload-4 controller _ _ (c .before .before .slot-at .ensures) (c .if1 .taken))
+returns c = refuses _ (reload-4 controller _ _ refl (other (c .before .phase-at .ensures) (c .if1 .taken)))
 
 first-obstacle-requires : tie.Need-first-obstacle-requires
-first-obstacle-requires c κs =
-    let zone = c .before in
-    let start = zone .before .before .before .before .before in
-    (search needs, search needs, logged-of _ (start .pre .0) _ (start .pre .1) _ (zone .before .before .slot-at .ensures))
+first-obstacle-requires c κs = search needs
 
 enum-known-cell : tie.Need-enum-known-cell
 enum-known-cell c = search needs
@@ -33,10 +33,7 @@ same-length-2 : tie.Need-same-length-2
 same-length-2 c = search needs
 
 returns-2 : tie.Need-returns-2
-returns-2 c =
-    let zone = c .before .before .before .before .before in
-    refuses _ (reload-11 controller _ _ (zone .before .before .slot-at .ensures) (zone .if1 .left) (c .before .before .before .first-obstacle .ensures)
-    (c .before .cell .given .1))
+returns-2 c = refuses _ (reload-11 controller _ _ refl (same (c .before .before .before .before .before .before .phase-at .ensures) (c .before .before .before .before .before .if1 .left)) (c .before .before .before .first-obstacle .ensures) (c .before .cell .given .1))
 
 enum-told : tie.Need-enum-told
 enum-told c = search needs
@@ -48,49 +45,42 @@ same-length-3 : tie.Need-same-length-3
 same-length-3 c = search needs
 
 returns-3 : tie.Need-returns-3
-returns-3 c =
-    let clear = c .before .before .before in
-    let zone = clear .before .before .before .before in
-    refuses _ (reload-12 controller _ _ (zone .before .before .slot-at .ensures) (zone .if1 .left) (clear .before .before .first-obstacle .ensures)
-    (clear .enum-told .given .1) (c .before .clock .ensures) (c .if2 .taken))
+returns-3 c = refuses _ (reload-12 controller _ _ refl (same (c .before .before .before .before .before .before .before .before .phase-at .ensures) (c .before .before .before .before .before .before .before .if1 .left)) (c .before .before .before .before .before .first-obstacle .ensures) (c .before .before .before .enum-told .given .1) (c .before .clock .ensures) (c .if2 .taken))
 
 add-stamp : tie.Need-add-stamp
 add-stamp c = search needs
 
+fields-at-requires : tie.Need-fields-at-requires
+fields-at-requires c κs = search needs
+
 reloaded-reads-requires : tie.Need-reloaded-reads-requires
-reloaded-reads-requires c κs =
-    let zone = c .before .before .before .before .before .before .before .before in
-    let start = zone .before .before .before .before .before in
-    (search needs, logged-of _ (start .pre .0) _ (start .pre .1) _ (zone .before .before .slot-at .ensures))
+reloaded-reads-requires c κs = search needs
 
 reloaded-requires : tie.Need-reloaded-requires
 reloaded-requires c κs = search needs
 
-store-slot-clock-requires : tie.Need-store-slot-clock-requires
-store-slot-clock-requires c κs =
-    let zone = c .before .before .before .before .before .before .before .before .before .before .before in
-    let start = zone .before .before .before .before .before in
-    let kept = reloaded-stands (slotAt (stateIn (start .args .s .now)) (start .args .i)) _ (zone .before .before .slot-at .ensures)
-    (reloaded (stateIn (start .args .s .now))) (c .before .before .reloaded-reads .ensures) (zone .if1 .left) (c .before .reloaded .ensures) .kept in
-    (search needs, search needs, kept)
+store-reads-clock-requires : tie.Need-store-reads-clock-requires
+store-reads-clock-requires c κs =
+    let S = stateIn (c .before .before .before .before .before .before .before .before .before .before .before .before .before .before .before .before .before .args .s .now) in
+    let v = lay (slotAt S (c .before .before .before .before .before .before .before .before .before .before .before .before .before .before .before .before .before .args .i)) in
+    let kept = reloaded-stands (slotAt S (c .before .before .before .before .before .before .before .before .before .before .before .before .before .before .before .before .before .args .i)) v refl (reloaded S) (c .before .before .reloaded-reads .ensures) (same (c .before .before .before .before .before .before .before .before .before .before .before .before .before .before .phase-at .ensures) (c .before .before .before .before .before .before .before .before .before .before .before .before .before .if1 .left)) (reloaded-alone v (c .before .before .before .before .fields-at .ensures) (c .before .reloaded .ensures)) .kept in
+    (((c .before .before .before .before .before .before .before .before .before .before .before .before .before .before .before .before .before .pre .0), (c .before .before .before .before .before .before .before .before .before .before .before .before .before .before .before .before .before .pre .1)), kept)
 
 same-length-4 : tie.Need-same-length-4
 same-length-4 c = search needs
 
 returns-4 : tie.Need-returns-4
 returns-4 c =
-    let below = c .before .before .before .before .before .before .before in
-    let clear = below .before .before .before in
-    let zone = clear .before .before .before .before in
-    leaves _ (reload-0 controller _ _ (zone .before .before .slot-at .ensures) (zone .if1 .left) (clear .before .before .first-obstacle .ensures)
-    (clear .enum-told .given .1) (below .before .clock .ensures) (below .if2 .left) (c .before .before .before .before .before .reloaded-reads .ensures)
-    (c .before .before .before .before .reloaded .ensures)) (c .before .before .store-slot-clock .ensures)
+    let S = stateIn (c .before .before .before .before .before .before .before .before .before .before .before .before .before .before .before .before .before .before .before .before .args .s .now) in
+    let v = lay (slotAt S (c .before .before .before .before .before .before .before .before .before .before .before .before .before .before .before .before .before .before .before .before .args .i)) in
+    leaves _ (reload-0 controller _ _ refl (same (c .before .before .before .before .before .before .before .before .before .before .before .before .before .before .before .before .before .phase-at .ensures) (c .before .before .before .before .before .before .before .before .before .before .before .before .before .before .before .before .if1 .left)) (c .before .before .before .before .before .before .before .before .before .before .before .before .before .before .first-obstacle .ensures) (c .before .before .before .before .before .before .before .before .before .before .before .before .enum-told .given .1) (c .before .before .before .before .before .before .before .before .before .before .clock .ensures) (c .before .before .before .before .before .before .before .before .before .if2 .left) (c .before .before .before .before .before .reloaded-reads .ensures)
+    (reloaded-alone v (c .before .before .before .before .before .before .before .fields-at .ensures) (c .before .before .before .before .reloaded .ensures))) (c .before .before .store-reads-clock .ensures)
 
 pub reload-spec : {M : Type 1} → statement M
 reload-spec =
     tie.close
     (tie.spec
-    slot-at-requires
+    phase-at-requires
     same-length
     returns
     first-obstacle-requires
@@ -102,8 +92,9 @@ reload-spec =
     same-length-3
     returns-3
     add-stamp
+    fields-at-requires
     reloaded-reads-requires
     reloaded-requires
-    store-slot-clock-requires
+    store-reads-clock-requires
     same-length-4
     returns-4)

@@ -1,18 +1,32 @@
--- With the flag set the second half of the test is false, and without it the test is its first half.
-use mathlib.Core.Path.{sym}
+-- `spoilt` meets its contract: with the flag nothing is spoilt, and without it some mark is.
 use borrow.Author.Needs.{needs}
+use mathlib.Core.Path.{_≡_, sym, _∙_}
+use mathlib.Core.Bool.{true, false}
 use Rattle.slot.proofs.Logic.{and-false, and-true}
+use Rattle.rules.specs.State.{slotAt}
+use Rattle.rules.specs.Layout.{lay}
+use Rattle.area.specs.Good.{stateIn}
+use Rattle.twilight.proofs.Fields.{fields}
 use Rattle.twilight.proofs.zone.spoilt.Statement.{statement}
 use Rattle.twilight.proofs.zone.spoilt.Tie as tie
 
+fields-at-requires : tie.Need-fields-at-requires
+fields-at-requires c κs = search needs
+
 returns : tie.Need-returns
-returns c = rw (c .if1 .taken) (sym (and-false _))
+returns c =
+    let v = lay (slotAt (stateIn (c .before .before .before .args .s .now)) (c .before .before .before .args .i)) in
+    let flag : v .ignoring ≡ true = sym (fields v (c .before .fields-at .ensures) .ignoring) ∙ (c .if1 .taken) in
+    sym (rw (flag, and-false))
 
 some-marked-requires : tie.Need-some-marked-requires
 some-marked-requires c κs = search needs
 
 returns-2 : tie.Need-returns-2
-returns-2 c = rw (c .before .if1 .left, and-true) (c .some-marked .ensures)
+returns-2 c =
+    let v = lay (slotAt (stateIn (c .before .before .before .before .args .s .now)) (c .before .before .before .before .args .i)) in
+    let flag : v .ignoring ≡ false = sym (fields v (c .before .before .fields-at .ensures) .ignoring) ∙ (c .before .if1 .left) in
+    rw (flag, and-true) (c .some-marked .ensures)
 
 pub spoilt-spec : {M : Type 1} → statement M
-spoilt-spec = tie.close (tie.spec returns some-marked-requires returns-2)
+spoilt-spec = tie.close (tie.spec fields-at-requires returns some-marked-requires returns-2)

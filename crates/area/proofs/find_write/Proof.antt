@@ -1,0 +1,20 @@
+-- `find_write` meets its contract: the log that is searched where the slot stands is its record's.
+use borrow.Author.Needs.{needs}
+use Rattle.slot.specs.declared.SlotRecord.{SlotRecord}
+use Rattle.slot.specs.Logs.{writeLog, writeEntry}
+use Rattle.slot.specs.Operations.{writeFound}
+use Rattle.area.proofs.SlotRead.{read-of-slot}
+use Rattle.area.proofs.find_write.Statement.{statement}
+use Rattle.area.proofs.find_write.Tie as tie
+
+slot-offset-requires : tie.Need-slot-offset-requires
+slot-offset-requires c κs = search needs
+
+find-write-requires : tie.Need-find-write-requires
+find-write-requires c κs = search needs
+
+returns : tie.Need-returns
+returns c = read-of-slot (λ (v : SlotRecord). writeFound (writeEntry (writeLog v) (c .before .before .before .args .cell))) (c .before .before .before .pre .0) (c .before .before .before .pre .1) (c .before .slot-offset .ensures) (c .find-write .ensures)
+
+pub find-write-spec : {M : Type 1} → statement M
+find-write-spec = tie.close (tie.spec slot-offset-requires find-write-requires returns)

@@ -1,0 +1,45 @@
+-- `put_fresh` meets its contract: the three parts are put one after the other over the whole area.
+use borrow.Author.Needs.{needs}
+use Rattle.area.proofs.Laid.{laid-out}
+use Rattle.area.proofs.fresh.put_fresh.Statement.{statement}
+use Rattle.area.proofs.fresh.put_fresh.Tie as tie
+
+cast-put-header : tie.Need-cast-put-header
+cast-put-header c = search needs
+
+put-header-requires : tie.Need-put-header-requires
+put-header-requires c κs = search needs
+
+put-described-requires : tie.Need-put-described-requires
+put-described-requires c κs = search needs
+
+mul-put-idle : tie.Need-mul-put-idle
+mul-put-idle c = search needs
+
+add-put-idle : tie.Need-add-put-idle
+add-put-idle c = search needs
+
+put-idle-requires : tie.Need-put-idle-requires
+put-idle-requires c κs = search needs
+
+same-length : tie.Need-same-length
+same-length c = search needs
+
+returns : tie.Need-returns
+returns c =
+    let start = c .before .before .before .before .before .before .before .before .before .before .before .before .before .before in
+    laid-out (start .args .ds .now) (start .args .n) (start .args .s .now) (c .before .before .before .before .before .before .before .before .before .before .put-header .last .0) (c .before .before .before .before .before .before .put-described .last .0) (c .before .before .put-idle .last .0)
+    (start .pre .0) (start .pre .2) (c .before .before .before .before .before .before .before .before .before .before .put-header .ensures) (c .before .before .before .before .before .before .put-described .ensures) (c .before .before .put-idle .ensures)
+
+pub put-fresh-spec : {M : Type 1} → statement M
+put-fresh-spec =
+    tie.close
+    (tie.spec
+    cast-put-header
+    put-header-requires
+    put-described-requires
+    mul-put-idle
+    add-put-idle
+    put-idle-requires
+    same-length
+    returns)

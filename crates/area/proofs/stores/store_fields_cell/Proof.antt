@@ -1,0 +1,39 @@
+-- `store_fields_cell` meets its contract: the slot is put in the packed state, and the cell in what that leaves.
+use mathlib.Core.Path.{_∙_}
+use borrow.Author.Needs.{needs}
+use Rattle.wire.specs.Part.{splice}
+use Rattle.slot.specs.Fields.{turnedTo}
+use Rattle.rules.specs.Model.{controller}
+use Rattle.rules.specs.State.{slotAt, turn}
+use Rattle.rules.specs.Layout.{lay, view, cellBytes}
+use Rattle.rules.proofs.AreaRead.{count-read}
+use Rattle.rules.proofs.Stores.{pack-cell}
+use Rattle.area.specs.Good.{stateIn}
+use Rattle.area.proofs.stores.store_fields_cell.Statement.{statement}
+use Rattle.area.proofs.stores.store_fields_cell.Tie as tie
+
+store-fields-requires : tie.Need-store-fields-requires
+store-fields-requires c κs = search needs
+
+cell-offset-requires : tie.Need-cell-offset-requires
+cell-offset-requires c κs = search needs
+
+put-cell-requires : tie.Need-put-cell-requires
+put-cell-requires c κs = search needs
+
+same-length : tie.Need-same-length
+same-length c = search needs
+
+returns : tie.Need-returns
+returns c =
+    let l = (c .before .before .before .before .before .before .before .before .before .before .args .s .now) in
+    let S = stateIn l in
+    let v = turnedTo (lay (slotAt S (c .before .before .before .before .before .before .before .before .before .before .args .i))) (c .before .before .before .before .before .before .before .before .before .before .args .v) in
+    (c .before .before .put-cell .ensures)
+    ∙ (λ j. splice ((c .before .before .before .before .before .before .before .store-fields .ensures) j) ((c .before .before .before .cell-offset .ensures) j) (cellBytes 8 (c .before .before .before .before .before .before .before .before .before .before .args .x)))
+    ∙ pack-cell controller (turn S (c .before .before .before .before .before .before .before .before .before .before .args .i) (S .clock) (S .cells) (view v)) (c .before .before .before .before .before .before .before .before .before .before .args .c) (c .before .before .before .before .before .before .before .before .before .before .args .x) (rw (count-read controller l) (c .before .before .before .before .before .before .before .before .before .before .pre .0 .2))
+
+pub store-fields-cell-spec : {M : Type 1} → statement M
+store-fields-cell-spec =
+    tie.close
+    (tie.spec store-fields-requires cell-offset-requires put-cell-requires same-length returns)

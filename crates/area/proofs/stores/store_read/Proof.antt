@@ -1,0 +1,54 @@
+-- `store_read` meets its contract: the fields are put before the logs, and the entry at its place in the read log.
+use mathlib.Core.Path.{refl}
+use native.Mathlib.Omega.{arith}
+use borrow.Author.Needs.{needs}
+use Rattle.slot.specs.Fields.{withLast}
+use Rattle.rules.specs.Model.{controller}
+use Rattle.rules.specs.State.{slotAt}
+use Rattle.rules.specs.Layout.{lay}
+use Rattle.rules.proofs.AreaRead.{count-read, slots-read}
+use Rattle.area.specs.Good.{stateIn}
+use Rattle.area.proofs.Good.{good-kept}
+use Rattle.area.proofs.Logged.{logged-of}
+use Rattle.area.proofs.Stored.{slot-stored, entry-put}
+use Rattle.area.proofs.stores.store_read.Statement.{statement}
+use Rattle.area.proofs.stores.store_read.Tie as tie
+
+slot-offset-requires : tie.Need-slot-offset-requires
+slot-offset-requires c κs = search needs
+
+sub-last : tie.Need-sub-last
+sub-last c = search needs
+
+cast-last : tie.Need-cast-last
+cast-last c = search needs
+
+pack-fields-requires : tie.Need-pack-fields-requires
+pack-fields-requires c κs = search needs
+
+pack-read-requires : tie.Need-pack-read-requires
+pack-read-requires c κs = search needs
+
+same-length : tie.Need-same-length
+same-length c = search needs
+
+returns : tie.Need-returns
+returns c =
+    let l = (c .before .before .before .before .before .before .before .before .before .before .before .before .args .s .now) in
+    let i = (c .before .before .before .before .before .before .before .before .before .before .before .before .args .i) in
+    let v = lay (slotAt (stateIn l) i) in
+    slot-stored (stateIn l) _ i (withLast v (c .before .before .before .before .before .before .before .before .before .before .before .before .args .v)) l _ _ (slots-read controller l) (count-read controller l) (c .before .before .before .before .before .before .before .before .before .before .before .before .pre .0 .1) (c .before .before .before .before .before .before .before .before .before .before .before .before .pre .1) (good-kept l (c .before .before .before .before .before .before .before .before .before .before .before .before .pre .0 .0)) (c .before .before .before .before .before .before .before .before .before .slot-offset .ensures)
+    (entry-put (stateIn l) _ i l _ (slots-read controller l) (count-read controller l) (c .before .before .before .before .before .before .before .before .before .before .before .before .pre .0 .1) (good-kept l (c .before .before .before .before .before .before .before .before .before .before .before .before .pre .0 .0)) (c .before .before .before .before .before .before .before .before .before .slot-offset .ensures) (omega arith)
+    (c .before .before .before .before .before .before .before .before .before .before .before .before .args .v) _ _ _ _ (c .before .before .before .before .before .before .pack-fields .ensures) (c .before .before .pack-read .ensures) (omega arith) (logged-of l (c .before .before .before .before .before .before .before .before .before .before .before .before .pre .0 .0) i (c .before .before .before .before .before .before .before .before .before .before .before .before .pre .0 .1) v refl .whole))
+
+pub store-read-spec : {M : Type 1} → statement M
+store-read-spec =
+    tie.close
+    (tie.spec
+    slot-offset-requires
+    sub-last
+    cast-last
+    pack-fields-requires
+    pack-read-requires
+    same-length
+    returns)

@@ -1,0 +1,82 @@
+-- `clear` meets its contract: before each turn the first `k` bytes are zero.
+use mathlib.Core.Path.{_≡_, refl, sym, ap, _∙_}
+use Prim.Native.Nat.{ℕ, _+_, _-_, _≤_}
+use native.Mathlib.Omega.{arith}
+use lib.ListN.{length, replicate, length-set}
+use Rattle.wire.specs.Part.{splice}
+use Rattle.wire.proofs.Laws.Part.{splice-nil}
+use Rattle.slot.specs.Layout.{slotSize}
+use Rattle.slot.proofs.Zero.{empty-bytes, zero-next}
+use Rattle.slot.proofs.in_place.clear.Statement.{statement}
+use Rattle.slot.proofs.in_place.clear.Tie as tie
+
+abbrev Inv-loop : tie.InvT-loop
+Inv-loop s₀ at width size k₀ s k = (k ≤ size) × (length s ≡ length s₀) × (s ≡ splice s₀ at (replicate k 0))
+
+abbrev μ-loop : tie.MeasureT-loop
+μ-loop s₀ at width size k₀ s k = size - k
+
+mul-size : tie.Need-mul-size Inv-loop μ-loop
+mul-size c = omega arith
+
+add-size : tie.Need-add-size Inv-loop μ-loop
+add-size c = omega arith
+
+add-size-2 : tie.Need-add-size-2 Inv-loop μ-loop
+add-size-2 c = omega arith
+
+mul-size-2 : tie.Need-mul-size-2 Inv-loop μ-loop
+mul-size-2 c = omega arith
+
+add-size-3 : tie.Need-add-size-3 Inv-loop μ-loop
+add-size-3 c = omega arith
+
+loop-holds : tie.Need-loop-holds Inv-loop μ-loop
+loop-holds c = (omega arith, refl, sym (splice-nil (c .args .s .now) (c .args .at)))
+
+add-s : tie.Need-add-s Inv-loop μ-loop
+add-s c = omega arith
+
+slice-write-s : tie.Need-slice-write-s Inv-loop μ-loop
+slice-write-s c = omega arith
+
+add-k : tie.Need-add-k Inv-loop μ-loop
+add-k c = omega arith
+
+loop-less : tie.Need-loop-less Inv-loop μ-loop
+loop-less c = omega arith
+
+loop-again : tie.Need-loop-again Inv-loop μ-loop
+loop-again c = (
+  omega arith,
+  length-set {A = ℕ} (c .before .loop .s) (c .before .before .args .at + c .before .loop .k) 0 ∙ (c .before .loop .inv .1),
+  zero-next (c .before .before .args .s .now) (c .before .before .args .at) (c .before .loop .k) (c .before .loop .s) (omega arith) (c .before .loop .inv .2),
+)
+
+same-length : tie.Need-same-length Inv-loop μ-loop
+same-length c = omega arith
+
+returns : tie.Need-returns Inv-loop μ-loop
+returns c =
+    let all : (c .before .loop .k) ≡ slotSize (c .before .before .args .width) = omega arith in
+    (c .before .loop .inv .2) ∙ ap (λ (k : ℕ). splice (c .before .before .args .s .now) (c .before .before .args .at) (replicate k 0)) all ∙ ap (splice (c .before .before .args .s .now) (c .before .before .args .at)) (sym (empty-bytes (c .before .before .args .width)))
+
+pub clear-spec : {M : Type 1} → statement M
+clear-spec =
+    tie.close
+    (tie.spec
+    Inv-loop
+    μ-loop
+    mul-size
+    add-size
+    add-size-2
+    mul-size-2
+    add-size-3
+    loop-holds
+    add-s
+    slice-write-s
+    add-k
+    loop-less
+    loop-again
+    same-length
+    returns)
