@@ -1,0 +1,58 @@
+-- `clock_line` meets its contract: the fields are gathered in a text of its own, and the text is put whole.
+use mathlib.Core.Path.{refl}
+use Rattle.line.proofs.Gather.{leaves, puts-same}
+use Rattle.line.proofs.Lines.{clock-gathered}
+use borrow.Author.Needs.{needs}
+use Rattle.line.proofs.clock_line.Statement.{statement}
+use Rattle.line.proofs.clock_line.Tie as tie
+
+slice-aggregate-put-bytes : tie.Need-slice-aggregate-put-bytes
+slice-aggregate-put-bytes c = search needs
+
+slice-aggregate-put-bytes-2 : tie.Need-slice-aggregate-put-bytes-2
+slice-aggregate-put-bytes-2 c = search needs
+
+put-bytes-requires : tie.Need-put-bytes-requires
+put-bytes-requires c κs = search needs
+
+end-or-requires : tie.Need-end-or-requires
+end-or-requires c κs = search needs
+
+slice-aggregate-add-number : tie.Need-slice-aggregate-add-number
+slice-aggregate-add-number c = search needs
+
+add-number-requires : tie.Need-add-number-requires
+add-number-requires c κs = search needs
+
+slice-aggregate-put-front : tie.Need-slice-aggregate-put-front
+slice-aggregate-put-front c = search needs
+
+put-front-requires : tie.Need-put-front-requires
+put-front-requires c κs = search needs
+
+same-length : tie.Need-same-length
+same-length c = search needs
+
+returns : tie.Need-returns
+returns c =
+    let args = c .before .before .before .before .before .before .before .before .before .before .before .before .before .before .args in
+    let put-bytes = c .before .before .before .before .before .before .before .before .before .before .put-bytes in
+    let end-or = c .before .before .before .before .before .before .before .before .end-or in
+    let add-number = c .before .before .before .before .before .before .add-number in
+    let word = leaves (put-bytes .ensures) refl (end-or .ensures) in
+    puts-same (c .before .before .put-front .ensures) (clock-gathered _ refl (args .clock) word (add-number .ensures))
+
+pub clock-line-spec : {M : Type 1} → statement M
+clock-line-spec =
+    tie.close
+    (tie.spec
+    slice-aggregate-put-bytes
+    slice-aggregate-put-bytes-2
+    put-bytes-requires
+    end-or-requires
+    slice-aggregate-add-number
+    add-number-requires
+    slice-aggregate-put-front
+    put-front-requires
+    same-length
+    returns)

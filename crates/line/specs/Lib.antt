@@ -1,0 +1,5 @@
+pub mod Number
+pub mod Line
+pub mod Gather
+pub mod Spelt
+pub mod Read

@@ -1,0 +1,81 @@
+-- The area of a good sheet: it is laid out whatever the lent bytes were, and is well formed after any number of steps.
+use mathlib.Core.Bool.{true}
+use mathlib.Core.List.{List}
+use mathlib.Core.Path.{_≡_, sym, _∙_}
+use Prim.Native.Nat.{ℕ, zero, suc, _+_, _*_}
+use native.Mathlib.Omega.{arith}
+use borrow.Author.Tests.{eq-eqb, le-leb}
+use lib.ListN.{length, drop, length-drop, length-replicate}
+use lib.Seq.{length-take-le}
+use Rattle.wire.specs.Field.{Bytes}
+use Rattle.slot.proofs.Logic.{and-intro, and-right}
+use Rattle.rules.specs.Model.{controller, areaLength}
+use Rattle.rules.specs.StateRight.{stateRight}
+use Rattle.rules.specs.LogsRight.{cellCountRight}
+use Rattle.rules.specs.Layout.{pack}
+use Rattle.rules.specs.AreaRight.{wellFormed}
+use Rattle.rules.specs.Area.{describedCount, describedCells, fresh, lengthsFit, layOut}
+use Rattle.rules.proofs.Controller.{controller-fits}
+use Rattle.rules.proofs.LaidOut.{laid-right, lays-out}
+use Rattle.rules.proofs.RoundTrip.{pack-right, round-trip}
+use Rattle.history.proofs.Keeps.{keeps}
+use Rattle.sheet.specs.Apart.{describedLength, descriptions, descriptionsLegal, goodSheet}
+use Rattle.sheet.specs.Output.{callAt, areaAfter, blank, firstArea}
+use Rattle.sheet.proofs.Apart.{GoodParts}
+
+-- an area as a step leaves it
+pub record Kept (a : List ℕ) : Type 0 where
+  pub right : wellFormed controller a ≡ true
+  pub bytes : Bytes a
+
+pub kept-after : (a l : List ℕ) → Kept a → (k : ℕ) → Kept (areaAfter a l k)
+unfolding areaAfter
+kept-after a l h zero = h
+kept-after a l h (suc k) =
+    let before = kept-after a l h k in
+    record {
+      right = keeps controller controller-fits .areaKept (areaAfter a l k) (callAt l k) (before .bytes) (before .right);
+      bytes = keeps controller controller-fits .bytesKept (areaAfter a l k) (callAt l k) (before .bytes) (before .right);
+    }
+
+module _ {s : List ℕ} {cells first steps : ℕ} (good : GoodParts s cells first steps) where
+  described-long : length (descriptions s) ≡ 5 * cells
+  described-long = length-take-le (describedLength s) (drop 3 s) (rw length-drop (omega (arith, good .long))) ∙ sym (good .size)
+
+  fit : (a : List ℕ) → length a ≡ 1590 + 14 * cells → lengthsFit controller a (descriptions s) ≡ true
+  unfolding lengthsFit cellCountRight
+  fit a long =
+      let n : describedCount (descriptions s) ≡ cells = omega (arith, described-long) in
+      let five : 5 * describedCount (descriptions s) ≡ length (descriptions s) = omega (arith, described-long) in
+      let size : length a ≡ areaLength controller cells = omega arith in
+      and-intro _ _ (eq-eqb _ _ five)
+      (and-intro _ _ (rw n (and-intro _ _ (le-leb 1 cells (good .few)) (le-leb cells 64 (good .many)))) (rw n (eq-eqb _ _ size)))
+
+  legal : descriptionsLegal (descriptions s) ≡ true
+  unfolding goodSheet
+  legal = and-right _ _ (and-right _ _ (and-right _ _ (and-right _ _ (good .right))))
+
+  accepted : (a : List ℕ) → length a ≡ 1590 + 14 * cells → layOut controller a (descriptions s) .code ≡ 0
+  unfolding layOut descriptionsLegal
+  accepted a long = rw (fit a long, legal)
+
+  zeros : length (blank s) ≡ 1590 + 14 * cells
+  zeros = rw (length-replicate, ← good .count) (omega arith)
+
+  pub first-packed : firstArea s ≡ pack controller (fresh controller (describedCells (descriptions s)))
+  first-packed = lays-out controller controller-fits .packed (blank s) (descriptions s) (accepted (blank s) zeros)
+
+  -- what was in the area does not matter
+  pub same-first : (a : List ℕ) → length a ≡ 1590 + 14 * cells → layOut controller a (descriptions s) .bytes ≡ firstArea s
+  same-first a long =
+      lays-out controller controller-fits .packed a (descriptions s) (accepted a long)
+      ∙ sym first-packed
+
+  pub first-right : stateRight controller (fresh controller (describedCells (descriptions s))) ≡ true
+  first-right = laid-right controller controller-fits (blank s) (descriptions s) (accepted (blank s) zeros)
+
+  pub first-kept : Kept (firstArea s)
+  first-kept =
+      let S = fresh controller (describedCells (descriptions s)) in
+      rw first-packed
+      (record { right = pack-right controller controller-fits S first-right; bytes = round-trip controller controller-fits .packBytes S first-right })

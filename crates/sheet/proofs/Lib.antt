@@ -1,0 +1,12 @@
+pub mod Reading
+pub mod Tests
+pub mod Steps
+pub mod Apart
+pub mod State
+pub mod First
+pub mod Short
+pub mod Whole
+pub mod Within
+pub mod Unique
+pub mod States
+pub mod SheetS

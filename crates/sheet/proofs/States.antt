@@ -1,0 +1,108 @@
+-- The run on bytes is the run on states: a step on the area of a state is the step on the state.
+use mathlib.Core.Bool.{true}
+use mathlib.Core.List.{List, _++_, append-assoc}
+use mathlib.Core.Path.{_≡_, refl, sym, ap, _∙_}
+use Prim.Native.Nat.{ℕ, zero, suc, _+_, _<_}
+use lib.ListN.{length, getD, drop}
+use Rattle.wire.specs.Table.{cat}
+use Rattle.wire.proofs.Laws.Table.{cat-ext, length-tab, getD-tab}
+use Rattle.rules.specs.Model.{controller, cellOffset}
+use Rattle.rules.specs.State.{State, noCell, cellCount, cellAt}
+use Rattle.rules.specs.StateRight.{stateRight}
+use Rattle.rules.specs.Outcome.{Outcome, refused, accepted, replyOf, after}
+use Rattle.rules.specs.Step.{Call, step}
+use Rattle.rules.specs.Layout.{pack, cellOf, countIn, clockIn, cellsIn, stateOf}
+use Rattle.rules.specs.Area.{Answered, answered, stepOnBytes}
+use Rattle.rules.proofs.Controller.{controller-fits}
+use Rattle.rules.proofs.RoundTrip.{pack-right, state-back}
+use Rattle.history.proofs.Keeps.{keeps}
+use Rattle.line.specs.Line.{clockLine}
+use Rattle.sheet.specs.Apart.{steps}
+use Rattle.sheet.specs.Output.{callAt, stepCount, areaAfter, lineOf, stepLine, lineOfCell, lineInArea, printed, output}
+use Rattle.sheet.specs.States.{stateAfter, stateLine, endLines, stateLines, OnStates}
+use Rattle.sheet.proofs.Apart.{good-parts}
+use Rattle.sheet.proofs.First.{first-packed, first-right}
+
+-- one step
+module _ (S : State) (right : stateRight controller S ≡ true) (call : Call) where
+  on-packed : stepOnBytes controller (pack controller S) call ≡ answered controller (pack controller S) (step controller S call)
+  unfolding stepOnBytes
+  on-packed = rw (pack-right controller controller-fits S right, state-back controller controller-fits S right)
+
+  same-bytes : (o : Outcome) → answered controller (pack controller S) o .bytes ≡ pack controller (after S o)
+  same-bytes (refused r) = refl
+  same-bytes (accepted r T) = refl
+
+  same-reply : (o : Outcome) → answered controller (pack controller S) o .reply ≡ replyOf o
+  same-reply (refused r) = refl
+  same-reply (accepted r T) = refl
+
+  step-bytes : stepOnBytes controller (pack controller S) call .bytes ≡ pack controller (after S (step controller S call))
+  step-bytes = ap (λ (x : Answered). x .bytes) on-packed ∙ same-bytes (step controller S call)
+
+  step-reply : stepOnBytes controller (pack controller S) call .reply ≡ replyOf (step controller S call)
+  step-reply = ap (λ (x : Answered). x .reply) on-packed ∙ same-reply (step controller S call)
+
+-- the lines of a state at its end
+module _ (T : State) (right : stateRight controller T ≡ true) where
+  back : stateOf controller (pack controller T) ≡ T
+  back = state-back controller controller-fits T right
+
+  count : countIn (pack controller T) ≡ cellCount T
+  unfolding stateOf cellsIn
+  count =
+      sym (length-tab (countIn (pack controller T)) (λ c. cellOf 8 (drop (cellOffset controller c) (pack controller T))))
+      ∙ ap (λ (S : State). length (S .cells)) back
+
+  cell : (c : ℕ) → c < countIn (pack controller T) → cellOf 8 (drop (cellOffset controller c) (pack controller T)) ≡ cellAt T c
+  unfolding stateOf cellsIn
+  cell c h =
+      sym (getD-tab (countIn (pack controller T)) (λ k. cellOf 8 (drop (cellOffset controller k) (pack controller T))) noCell c h)
+      ∙ ap (λ (S : State). getD (S .cells) c noCell) back
+
+  clock : clockIn controller (pack controller T) ≡ T .clock
+  unfolding stateOf
+  clock = ap (λ (S : State). S .clock) back
+
+  end-same : cat (countIn (pack controller T)) (lineInArea (pack controller T)) ++ clockLine (clockIn controller (pack controller T)) ≡ endLines T
+  unfolding endLines lineInArea
+  end-same =
+      let cells : cat (countIn (pack controller T)) (lineInArea (pack controller T)) ≡ cat (countIn (pack controller T)) (λ c. lineOfCell c (cellAt T c)) =
+      cat-ext (countIn (pack controller T)) (lineInArea (pack controller T)) (λ c. lineOfCell c (cellAt T c)) (λ c h. ap (lineOfCell c) (cell c h)) in
+      (λ i. cells i ++ clockLine (clock i)) ∙ ap (λ (n : ℕ). cat n (λ c. lineOfCell c (cellAt T c)) ++ clockLine (T .clock)) count
+
+module _ (S : State) (right : stateRight controller S ≡ true) (l : List ℕ) where
+  state-right : (k : ℕ) → stateRight controller (stateAfter S l k) ≡ true
+  unfolding stateAfter
+  state-right zero = right
+  state-right (suc k) = keeps controller controller-fits .stateKept (stateAfter S l k) (callAt l k) (state-right k)
+
+  area-of : (k : ℕ) → areaAfter (pack controller S) l k ≡ pack controller (stateAfter S l k)
+  unfolding areaAfter stateAfter
+  area-of zero = refl
+  area-of (suc k) =
+      ap (λ (x : List ℕ). stepOnBytes controller x (callAt l k) .bytes) (area-of k) ∙ step-bytes (stateAfter S l k) (state-right k) (callAt l k)
+
+  line-same : (k : ℕ) → stepLine (pack controller S) l k ≡ stateLine S l k
+  unfolding stepLine stateLine
+  line-same k =
+      ap (λ (x : List ℕ). lineOf (k + 1) (stepOnBytes controller x (callAt l k) .reply)) (area-of k)
+      ∙ ap (lineOf (k + 1)) (step-reply (stateAfter S l k) (state-right k) (callAt l k))
+
+  printed-same : printed (pack controller S) l ≡ stateLines S l
+  unfolding printed
+  printed-same =
+      let n = stepCount l in
+      let lines : cat n (stepLine (pack controller S) l) ≡ cat n (stateLine S l) =
+      cat-ext n (stepLine (pack controller S) l) (stateLine S l) (λ k h. line-same k) in
+      ap
+      (λ (e : List ℕ). cat n (stepLine (pack controller S) l) ++ cat (countIn e) (lineInArea e) ++ clockLine (clockIn controller e))
+      (area-of n)
+      ∙ append-assoc (cat n (stepLine (pack controller S) l)) (cat (countIn (pack controller (stateAfter S l n))) (lineInArea (pack controller (stateAfter S l n)))) (clockLine (clockIn controller (pack controller (stateAfter S l n))))
+      ∙ (λ i. lines i ++ end-same (stateAfter S l n) (state-right n) i)
+
+pub on-states : OnStates
+unfolding output
+on-states s good =
+    let parts = good-parts s good in
+    rw good (ap (λ (a : List ℕ). printed a (steps s)) (first-packed parts) ∙ printed-same _ (first-right parts) (steps s))

@@ -1,0 +1,77 @@
+-- A step sheet's bytes, big-endian: version; a 2-byte length and the descriptions; a 2-byte length and the steps. Its parts, and its faults.
+use mathlib.Core.Bool.{Bool, cond}
+use mathlib.Core.List.{List}
+use Prim.Native.Nat.{ℕ, _+_, _*_, _/_}
+use lib.Dec.{eqb, leb}
+use lib.ListN.{length, getD, take, drop}
+use Rattle.value.specs.Legal.{legalWord}
+use Rattle.wire.specs.Field.{be}
+use Rattle.slot.specs.Logic.{_and_, all}
+use Rattle.rules.specs.Model.{controller}
+use Rattle.rules.specs.LogsRight.{cellCountRight}
+use Rattle.rules.specs.Area.{descriptionSize, describedCells}
+use Rattle.rules.specs.declared.Cell.{Cell}
+use Rattle.sheet.specs.declared.Sheet.{Sheet}
+use Rattle.sheet.specs.declared.Sheet.the-variants.{Good, Bad}
+
+-- steps of 8 bytes, at most 4,096
+abbrev pub stepSize : ℕ
+stepSize = 8
+
+abbrev pub mostSteps : ℕ
+mostSteps = 4096
+
+-- the version, and the two lengths
+abbrev pub versionOf : List ℕ → ℕ
+versionOf s = getD s 0 0
+
+abbrev pub describedLength : List ℕ → ℕ
+describedLength s = be 2 (drop 1 s)
+
+abbrev pub stepsLength : List ℕ → ℕ
+stepsLength s = be 2 (drop (3 + describedLength s) s)
+
+-- where the first step stands
+abbrev pub firstStep : List ℕ → ℕ
+firstStep s = 5 + describedLength s
+
+abbrev pub descriptions : List ℕ → List ℕ
+descriptions s = take (describedLength s) (drop 3 s)
+
+abbrev pub steps : List ℕ → List ℕ
+steps s = take (stepsLength s) (drop (firstStep s) s)
+
+abbrev pub cellsOf : List ℕ → ℕ
+cellsOf s = describedLength s / descriptionSize
+
+abbrev pub stepsOf : List ℕ → ℕ
+stepsOf s = stepsLength s / stepSize
+
+-- no byte is missing or left over
+unfoldable pub wholeSheet : List ℕ → Bool
+wholeSheet s = eqb (length s) (firstStep s + stepsLength s)
+
+-- a multiple of 5, and n from 1 to 64
+unfoldable pub describedRight : ℕ → Bool
+describedRight size = eqb (descriptionSize * (size / descriptionSize)) size and cellCountRight controller (size / descriptionSize)
+
+-- a multiple of 8, and not too many steps
+unfoldable pub stepsRight : ℕ → Bool
+stepsRight size = eqb (stepSize * (size / stepSize)) size and leb (size / stepSize) mostSteps
+
+-- no description is illegal
+unfoldable pub descriptionsLegal : List ℕ → Bool
+descriptionsLegal ds = all (λ (x : Cell). legalWord (x .kind) (x .word)) (describedCells ds)
+
+-- If the version is not 1, a byte is missing or left over, a length is no multiple of 5 or 8, n is not 1 to 64, a description is illegal, or there
+-- are too many steps, the sheet is bad.
+unfoldable pub goodSheet : List ℕ → Bool
+goodSheet s =
+    eqb (versionOf s) 1
+    and wholeSheet s
+    and describedRight (describedLength s)
+    and stepsRight (stepsLength s)
+    and descriptionsLegal (descriptions s)
+
+unfoldable pub takenApart : List ℕ → Sheet
+takenApart s = cond (goodSheet s) (Good (cellsOf s) (firstStep s) (stepsOf s)) Bad

@@ -1,0 +1,6 @@
+pub mod Apart
+pub mod Output
+pub mod Parts
+pub mod Whole
+pub mod States
+pub mod SheetS
