@@ -12,7 +12,8 @@
 //! - [`step_in_place`] makes the same step on the bytes themselves, as a
 //!   yardstick of time, and [`fuzz`] compares a library with this one.
 //! - [`Sheet`] is a step sheet, with a binary form and a [`text`] form, and
-//!   [`run`] makes its output.
+//!   [`run`] makes its output; [`compare`] compares a program that runs sheets
+//!   with it, and [`Timeline`] draws the run.
 
 #![forbid(unsafe_code)]
 #![warn(missing_docs)]
@@ -20,6 +21,7 @@
 pub mod area;
 pub mod binary;
 pub mod call;
+pub mod compare;
 pub mod fuzz;
 pub mod generate;
 pub mod inplace;
@@ -27,6 +29,7 @@ pub mod machine;
 pub mod random;
 pub mod run;
 pub mod text;
+pub mod timeline;
 pub mod value;
 pub mod wellformed;
 
@@ -41,5 +44,6 @@ pub use inplace::step_in_place;
 pub use machine::{Cell, Commit, Machine, Phase, Read, Transaction, Write};
 pub use random::Random;
 pub use text::TextError;
+pub use timeline::Timeline;
 pub use value::{Kind, Value};
 pub use wellformed::{faults, well_formed};

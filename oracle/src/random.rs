@@ -12,6 +12,13 @@ impl Random {
         Random { state: seed }
     }
 
+    /// The generator of one part of a run. Mixed twice: neighbouring parts have
+    /// nothing in common.
+    pub fn of_part(seed: u64, part: u64) -> Random {
+        let mixed = Random::new(seed).next_u64() ^ part;
+        Random::new(Random::new(mixed).next_u64())
+    }
+
     /// Any 64 bits.
     pub fn next_u64(&mut self) -> u64 {
         self.state = self.state.wrapping_add(0x9e37_79b9_7f4a_7c15);

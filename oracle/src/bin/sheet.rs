@@ -1,16 +1,21 @@
 //! Assembles, shows and runs step sheets.
 
-use std::ffi::OsString;
+use std::ffi::{OsStr, OsString};
 use std::io::{Read, Write};
+use std::path::Path;
 use std::process::ExitCode;
 
-use oracle::{run, text, Sheet};
+use oracle::{run, text, Sheet, Timeline};
 
 const USAGE: &str = "\
 sheet: step sheets for the transaction core
 
-  sheet assemble [FILE]   text to binary
+  sheet assemble [FILE]   text to binary; what is binary stays as it is
   sheet show [FILE]       binary to text
+  sheet show --timeline [FILE] [--svg OUT]
+                          the run of a sheet, in either form: a lane for each
+                          slot, a column for each step; with --svg a picture
+                          in the file OUT, whose name ends in .svg
   sheet run [FILE]        makes the steps of a sheet, in either form
 
 Without FILE the sheet is read from standard input.
@@ -36,6 +41,7 @@ The text form has a line for each cell, then a line for each step:
 
 Numbers are decimal or hex (0x1f). A # starts a comment.
 A binary sheet begins with byte 1; a text never does.
+A picture has at most 400 steps; its title is the comment at the head of a text.
 ";
 
 /// What goes wrong, with the status to leave with.
@@ -61,21 +67,74 @@ fn answer(arguments: &[OsString]) -> Result<Vec<u8>, Failure> {
         return Ok(USAGE.into());
     };
     let act = match command.to_str() {
+        Some("show") if files.iter().any(is_option) => return draw(files),
         Some("assemble") => assemble,
         Some("show") => show,
         Some("run") => run_sheet,
         Some("help" | "--help" | "-h") => return Ok(USAGE.into()),
         _ => return Err(misused(format!("there is no command {command:?}"))),
     };
-    let input = match files {
-        [] => read_standard_input()?,
-        [file] => read_file(file)?,
-        [_, more, ..] => return Err(misused(format!("{more:?} is one argument too many"))),
-    };
-    act(&input).map_err(failed)
+    act(&read_input(files)?).map_err(failed)
 }
 
+/// The sheet from the one file that is named, or from standard input.
+fn read_input(files: &[OsString]) -> Result<Vec<u8>, Failure> {
+    match files {
+        [] => read_standard_input(),
+        [file] => read_file(file),
+        [_, more, ..] => Err(misused(format!("{more:?} is one argument too many"))),
+    }
+}
+
+fn is_option(argument: &OsString) -> bool {
+    argument.to_str().is_some_and(|word| word.starts_with("--"))
+}
+
+/// Shows the run of a sheet as a timeline, with the options in any order.
+fn draw(arguments: &[OsString]) -> Result<Vec<u8>, Failure> {
+    let (mut timeline, mut picture, mut files) = (false, None, Vec::new());
+    let mut left = arguments.iter();
+    while let Some(argument) = left.next() {
+        match argument.to_str() {
+            Some("--timeline") => timeline = true,
+            Some("--svg") => picture = Some(picture_file(left.next())?),
+            _ if is_option(argument) => {
+                return Err(misused(format!("there is no option {argument:?}")));
+            }
+            _ => files.push(argument.clone()),
+        }
+    }
+    if !timeline {
+        return Err(misused("--svg goes with --timeline".to_string()));
+    }
+    let drawn = Timeline::read(&read_input(&files)?).map_err(failed)?;
+    let Some(out) = picture else {
+        return Ok(drawn.plain().into());
+    };
+    let svg = drawn.svg().map_err(failed)?;
+    std::fs::write(&out, svg).map_err(|error| failed(format!("can't write {out:?}: {error}")))?;
+    Ok(Vec::new())
+}
+
+/// The file of the picture. Without the ending it might be a sheet, named in
+/// the wrong place and lost.
+fn picture_file(name: Option<&OsString>) -> Result<OsString, Failure> {
+    let Some(name) = name else {
+        return Err(misused("--svg needs the name of a file".to_string()));
+    };
+    let ending = Path::new(name).extension().and_then(OsStr::to_str);
+    if ending != Some("svg") {
+        return Err(misused(format!("{name:?} should end in .svg")));
+    }
+    Ok(name.clone())
+}
+
+/// A bad binary sheet stays as it is too: it is for the program that runs it
+/// to say so.
 fn assemble(input: &[u8]) -> Result<Vec<u8>, String> {
+    if !run::looks_like_text(input) {
+        return Ok(input.to_vec());
+    }
     let sheet = text::assemble(input).map_err(|error| error.to_string())?;
     Ok(sheet.encode())
 }

@@ -54,7 +54,7 @@ pub fn one_round(
 ) -> Result<(), Failure> {
     let calls_before = tally.calls();
     let sort = Sort::of(number);
-    let mut round = Round { library, random: random_for(seed, number), tally };
+    let mut round = Round { library, random: Random::of_part(seed, number), tally };
     round.make(sort).map_err(|report| Failure {
         seed,
         round: number,
@@ -62,10 +62,4 @@ pub fn one_round(
         calls_before: tally.calls() - calls_before,
         report,
     })
-}
-
-/// Mixed twice: neighbouring rounds have nothing in common.
-fn random_for(seed: u64, round: u64) -> Random {
-    let mixed = Random::new(seed).next_u64() ^ round;
-    Random::new(Random::new(mixed).next_u64())
 }

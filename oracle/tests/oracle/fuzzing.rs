@@ -5,11 +5,11 @@ use oracle::{lay_out_on_bytes, step_in_place, step_on_bytes, Call};
 
 use crate::peek::Peek;
 
-type StepOnBytes = fn(&mut [u8], Call) -> u64;
+pub type StepOnBytes = fn(&mut [u8], Call) -> u64;
 type LayOut = fn(&mut [u8], &[u8]) -> u64;
 
 /// Each is wrong in one way.
-const WRONG_STEPS: [(&str, StepOnBytes); 11] = [
+pub const WRONG_STEPS: [(&str, StepOnBytes); 11] = [
     ("always refuses", |_, _| 1 << 40),
     ("always answers the same", |_, _| 0),
     ("changes nothing", |area, call| step(&mut area.to_vec(), call)),
@@ -44,7 +44,7 @@ const WRONG_LAY_OUTS: [(&str, LayOut); 4] = [
     }),
 ];
 
-fn step(area: &mut [u8], call: Call) -> u64 {
+pub fn step(area: &mut [u8], call: Call) -> u64 {
     step_on_bytes(area, call.step, call.slot, call.cell, call.kind, call.word)
 }
 

@@ -1,10 +1,14 @@
-//! Tests of the library and of the program `sheet`.
+//! Tests of the library and of its programs.
 
 mod areas;
 mod bench;
+mod comparer;
+mod comparing;
 mod damage;
+mod drawing;
 mod edges;
 mod effects;
+mod examples;
 mod fuzzing;
 mod header;
 mod layout;
@@ -15,4 +19,5 @@ mod readings;
 mod sentences;
 mod sheets;
 mod texts;
+mod timelines;
 mod walks;

@@ -3,7 +3,7 @@
 use std::io::Write;
 use std::process::{Command, Output, Stdio};
 
-use oracle::text;
+use oracle::{text, Timeline};
 
 use crate::sheets::{s_binary, S_OUTPUT, S_TEXT};
 
@@ -48,6 +48,13 @@ fn assemble_and_show() {
 }
 
 #[test]
+fn assemble_leaves_what_is_binary_as_it_is() {
+    for binary in [&s_binary()[..], &s_binary()[..50], &[2, 0], &[]] {
+        check(&sheet(&["assemble"], binary), 0, binary, "");
+    }
+}
+
+#[test]
 fn a_bad_sheet_is_printed_by_run_and_refused_by_show() {
     for bad in [&[][..], &[1], &[2, 0], &s_binary()[1..], &s_binary()[..50]] {
         check(&sheet(&["run"], bad), 0, b"bad sheet\n", "");
@@ -88,4 +95,55 @@ fn misuse_has_its_own_status() {
     let missing = sheet(&["run", "no/such/file"], b"");
     assert_eq!((missing.status.code(), missing.stdout.len()), (Some(1), 0));
     assert!(missing.stderr.starts_with(b"sheet: can't read \"no/such/file\": "));
+}
+
+#[test]
+fn a_timeline_is_shown_of_either_form() {
+    let shown = sheet(&["show", "--timeline", S_FILE], b"");
+    let timeline = Timeline::read(&std::fs::read(S_FILE).expect("sheet S")).expect("good");
+    check(&shown, 0, timeline.plain().as_bytes(), "");
+    // A binary sheet has no comment, and is the same from the third line on.
+    let binary = sheet(&["show", "--timeline"], &s_binary());
+    let lanes = |output: &Output| {
+        let text = String::from_utf8_lossy(&output.stdout).to_string();
+        text.split_once("\n\n").expect("a title and the rest").1.to_string()
+    };
+    assert_eq!(lanes(&binary), lanes(&shown));
+    check(&sheet(&["show", "--timeline"], &[]), 1, b"", "sheet: bad sheet: a byte is missing\n");
+    let output = sheet(&["show", "--timeline"], b"cell whole 5\nbegin\n");
+    check(&output, 1, b"", "sheet: line 2: the slot is missing\n");
+}
+
+#[test]
+fn a_picture_goes_to_its_file_with_the_options_in_any_order() {
+    let out = concat!(env!("CARGO_TARGET_TMPDIR"), "/timeline.svg");
+    let timeline = Timeline::read(&std::fs::read(S_FILE).expect("sheet S")).expect("good");
+    let orders = [
+        ["show", "--timeline", S_FILE, "--svg", out],
+        ["show", "--svg", out, "--timeline", S_FILE],
+    ];
+    for arguments in orders {
+        let _ = std::fs::remove_file(out);
+        check(&sheet(&arguments, b""), 0, b"", "");
+        let written = std::fs::read_to_string(out).expect("the picture");
+        assert_eq!(Ok(written), timeline.svg());
+    }
+    let nowhere = sheet(&["show", "--timeline", S_FILE, "--svg", "no/such/folder/a.svg"], b"");
+    assert_eq!(nowhere.status.code(), Some(1));
+    assert!(nowhere.stderr.starts_with(b"sheet: can't write \"no/such/folder/a.svg\": "));
+}
+
+#[test]
+fn misuse_of_the_timeline_is_told() {
+    let cases: [(&[&str], &str); 5] = [
+        (&["show", S_FILE, "--svg", "a.svg"], "--svg goes with --timeline"),
+        (&["show", "--timeline", S_FILE, "--svg"], "--svg needs the name of a file"),
+        (&["show", "--timeline", "--svg", "s.txt"], "\"s.txt\" should end in .svg"),
+        (&["show", "--time", S_FILE], "there is no option \"--time\""),
+        (&["show", "--timeline", S_FILE, "b"], "\"b\" is one argument too many"),
+    ];
+    for (arguments, what) in cases {
+        let told = format!("sheet: {what}; sheet alone prints how it is used\n");
+        check(&sheet(arguments, b""), 2, b"", &told);
+    }
 }

@@ -1,0 +1,88 @@
+//! Random sheets.
+
+use super::case::Case;
+use crate::binary::{Sheet, STEPS_AT_MOST};
+use crate::call::{Call, Reply, Step};
+use crate::generate::Habit;
+use crate::machine::{Machine, CELLS_AT_MOST, SLOTS};
+use crate::random::Random;
+
+/// One random sheet in so many has as many cells and steps as there may be.
+const FULL_SHEETS_ARE_ONE_IN: u64 = 80;
+
+const CHANGED_SHEETS: u64 = 300;
+
+/// A sheet with a commit. It follows from the seed and its own number alone.
+pub fn random_sheet(seed: u64, number: u64) -> Case {
+    let mut random = Random::of_part(seed, number);
+    let sheet = match number % FULL_SHEETS_ARE_ONE_IN {
+        0 => busy_sheet(&mut random),
+        _ => some_sheet(&mut random),
+    };
+    Case::new(format!("random sheet {number} of seed {seed}"), encoded(sheet))
+}
+
+/// A sheet of most cells and most steps, with all slots in use.
+pub fn full_sheet(seed: u64) -> Vec<u8> {
+    encoded(busy_sheet(&mut Random::new(seed)))
+}
+
+/// Random sheets, most with some sense, with one byte changed to any other.
+/// Some are still good.
+pub fn changed_sheets(seed: u64) -> Vec<Case> {
+    let case = |number| {
+        // Parts of the run that no random sheet has.
+        let mut random = Random::of_part(seed, u64::MAX - number);
+        let mut bytes = encoded(random.sheet());
+        let place = match random.up_to(2) {
+            0 => random.place(bytes.len().min(8)),
+            _ => random.place(bytes.len()),
+        };
+        if let Some(byte) = bytes.get_mut(place) {
+            *byte ^= random.between(1, 255) as u8;
+        }
+        Case::new(format!("changed sheet {number} of seed {seed}, at byte {place}"), bytes)
+    };
+    (0..CHANGED_SHEETS).map(case).collect()
+}
+
+/// Every drawing gives a good sheet; an empty input would be told as bad and
+/// be missed by the least counts.
+fn encoded(sheet: Option<Sheet>) -> Vec<u8> {
+    sheet.map(|sheet| sheet.encode()).unwrap_or_default()
+}
+
+fn some_sheet(random: &mut Random) -> Option<Sheet> {
+    let n = random.cell_count();
+    let habit = random.habit();
+    let steps = random.between(40, 300) as usize;
+    sheet_with_a_commit(random, n, habit, steps)
+}
+
+fn busy_sheet(random: &mut Random) -> Option<Sheet> {
+    let patience = random.pick(&[8, 40])?;
+    let habit = Habit { slots: SLOTS as u8, patience };
+    sheet_with_a_commit(random, CELLS_AT_MOST, habit, STEPS_AT_MOST)
+}
+
+/// Draws until some transaction commits, which few short sheets lack.
+fn sheet_with_a_commit(random: &mut Random, n: usize, habit: Habit, steps: usize) -> Option<Sheet> {
+    loop {
+        let cells = random.values(n);
+        let mut machine = Machine::fresh(&cells)?;
+        let mut commits = 0;
+        let mut calls = Vec::new();
+        for _ in 0..steps {
+            let call = random.likely_call(&machine, habit);
+            commits += u64::from(is_commit(call, machine.step(call)));
+            calls.push(call);
+        }
+        if commits > 0 {
+            return Sheet::new(cells, calls).ok();
+        }
+    }
+}
+
+fn is_commit(call: Call, reply: Reply) -> bool {
+    Step::numbered(call.step) == Some(Step::Finish) && reply == Reply::Done
+}

@@ -1,0 +1,88 @@
+//! What is told when the program gives something else.
+
+use std::fmt;
+
+use super::{Case, Ended, Given};
+use crate::binary::Sheet;
+use crate::text;
+
+/// Bytes of a line that are shown.
+const SHOWN: usize = 120;
+
+/// The input and how what the program gave differs.
+#[derive(Clone, Debug)]
+pub struct Failure {
+    /// The input.
+    pub case: Case,
+    /// The differences, a line each.
+    pub report: Vec<String>,
+}
+
+impl fmt::Display for Failure {
+    fn fmt(&self, f: &mut fmt::Formatter) -> fmt::Result {
+        let Case { name, bytes, .. } = &self.case;
+        write!(f, "{name} ({} bytes)", bytes.len())?;
+        self.report.iter().try_for_each(|line| write!(f, "\n  {line}"))
+    }
+}
+
+/// An error says how the given differs from the wanted.
+pub(super) fn compare_with(case: &Case, wanted: &str, given: &Given) -> Result<(), Box<Failure>> {
+    let lines = [ended(given), errors(given), output(case, wanted.as_bytes(), &given.output)];
+    let report: Vec<String> = lines.into_iter().flatten().collect();
+    if report.is_empty() {
+        return Ok(());
+    }
+    Err(Box::new(Failure { case: case.clone(), report }))
+}
+
+fn ended(given: &Given) -> Option<String> {
+    match given.ended {
+        Ended::WithStatus(0) => None,
+        Ended::WithStatus(status) => Some(format!("it ended with status {status}, wanted 0")),
+        Ended::BySignal => Some("it was ended by a signal".to_string()),
+        Ended::NotInTime => Some("it did not end in time".to_string()),
+    }
+}
+
+fn errors(given: &Given) -> Option<String> {
+    let some = !given.errors.is_empty();
+    some.then(|| format!("it wrote to standard error: {}", quoted(&given.errors)))
+}
+
+/// Lines are compared with their newlines: a missing one is a difference.
+fn output(case: &Case, wanted: &[u8], given: &[u8]) -> Option<String> {
+    if wanted == given {
+        return None;
+    }
+    let mut wanted = wanted.split_inclusive(|byte| *byte == b'\n');
+    let mut given = given.split_inclusive(|byte| *byte == b'\n');
+    for line in 1.. {
+        let (right, wrong) = (wanted.next(), given.next());
+        if right != wrong {
+            let (right, wrong) = (line_or_none(right), line_or_none(wrong));
+            let step = step_at(case, line);
+            return Some(format!("line {line}{step}: wanted {right}, given {wrong}"));
+        }
+    }
+    None
+}
+
+fn line_or_none(line: Option<&[u8]>) -> String {
+    line.map_or("no such line".to_string(), quoted)
+}
+
+fn quoted(bytes: &[u8]) -> String {
+    let more = if bytes.len() > SHOWN { ".." } else { "" };
+    format!("\"{}\"{more}", bytes[..bytes.len().min(SHOWN)].escape_ascii())
+}
+
+/// The step that a line of the output is about, in the text form.
+fn step_at(case: &Case, line: usize) -> String {
+    let Ok(sheet) = Sheet::decode(&case.bytes) else {
+        return " (a bad sheet)".to_string();
+    };
+    let texts = text::show(&sheet);
+    let mut texts = texts.lines().skip(sheet.cells().len());
+    texts.nth(line - 1).map_or(String::new(), |step| format!(" ({step})"))
+}

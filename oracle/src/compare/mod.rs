@@ -1,0 +1,106 @@
+//! Sheets for a program that reads one from standard input and prints what it
+//! gives, each compared with this library: every byte of the output, the status,
+//! and that nothing goes to standard error.
+
+mod bad;
+mod case;
+mod draw;
+mod edges;
+mod failure;
+mod process;
+mod tally;
+
+pub use bad::bad_sheets;
+pub use case::Case;
+pub use draw::{changed_sheets, full_sheet, random_sheet};
+pub use edges::{cut_sheets, edge_sheets, long_inputs, sheets_in_pieces};
+pub use failure::Failure;
+pub use process::Process;
+pub use tally::Tally;
+
+use crate::binary::Sheet;
+use crate::run;
+
+/// What a program gave back.
+#[derive(Clone, Debug)]
+pub struct Given {
+    /// What it wrote to standard output.
+    pub output: Vec<u8>,
+    /// What it wrote to standard error.
+    pub errors: Vec<u8>,
+    /// How it ended.
+    pub ended: Ended,
+}
+
+/// How a program ended.
+#[derive(Clone, Copy, Debug, PartialEq, Eq)]
+pub enum Ended {
+    /// By itself, with this status.
+    WithStatus(i32),
+    /// By a signal.
+    BySignal,
+    /// It had to be ended.
+    NotInTime,
+}
+
+/// Gives the program a sheet. An error means that there is no such program.
+pub type Run<'a> = dyn FnMut(&Case) -> Result<Given, String> + 'a;
+
+/// What random sheets are drawn.
+#[derive(Clone, Copy, Debug)]
+pub struct Plan {
+    /// Equal seeds draw equal sheets.
+    pub seed: u64,
+    /// How many sheets with a commit.
+    pub sheets: u64,
+}
+
+/// Why a comparison stopped.
+#[derive(Debug)]
+pub enum Stopped {
+    /// The program can't be run.
+    NoProgram(String),
+    /// It has given something else than what is wanted.
+    Failed(Box<Failure>),
+}
+
+/// Compares on the examples, on sheets at the edges, good and bad, and on
+/// random ones. Before each group it says what comes.
+pub fn compare(
+    run: &mut Run,
+    examples: Vec<Case>,
+    plan: Plan,
+    say: &mut dyn FnMut(&str),
+) -> Result<Tally, Stopped> {
+    let groups = [
+        ("examples", examples),
+        ("good sheets at the edges", edge_sheets()),
+        ("bad sheets", bad_sheets()),
+        ("sheets cut short", cut_sheets()),
+        ("inputs that are too long", long_inputs()),
+        ("sheets that arrive in pieces", sheets_in_pieces()),
+        ("sheets with a byte changed", changed_sheets(plan.seed)),
+    ];
+    let mut tally = Tally::default();
+    for (what, cases) in groups {
+        say(&format!("{} {what}", cases.len()));
+        for case in cases {
+            tally.note_input(one(run, &case)?.is_some());
+        }
+    }
+    say(&format!("{} random sheets", plan.sheets));
+    for number in 0..plan.sheets {
+        let sheet = one(run, &random_sheet(plan.seed, number))?;
+        tally.note_input(sheet.is_some());
+        sheet.iter().for_each(|sheet| tally.note_steps(sheet));
+    }
+    Ok(tally)
+}
+
+/// Compares on one input, and answers the sheet if it is a good one.
+fn one(run: &mut Run, case: &Case) -> Result<Option<Sheet>, Stopped> {
+    let given = run(case).map_err(Stopped::NoProgram)?;
+    let wanted = run::run_binary(&case.bytes);
+    failure::compare_with(case, &wanted, &given).map_err(Stopped::Failed)?;
+    Ok(Sheet::decode(&case.bytes).ok())
+}

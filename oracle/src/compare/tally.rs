@@ -1,0 +1,117 @@
+//! What the sheets have reached, so that a run can't compare nothing unseen.
+
+use std::fmt;
+
+use crate::binary::{Sheet, STEPS_AT_MOST};
+use crate::call::{Call, Reply, Step};
+use crate::machine::{Machine, CELLS_AT_MOST};
+
+/// The least counts are those of so many random sheets; others are in
+/// proportion.
+const LEAST_COUNTS_ARE_FOR: u64 = 2_000;
+
+/// Counts of what was compared and found alike.
+#[derive(Clone, Debug, Default)]
+pub struct Tally {
+    good: u64,
+    bad: u64,
+    with_a_commit: u64,
+    full: u64,
+    codes: [u64; 14],
+    done: [u64; 15],
+    marks: u64,
+    ignores: u64,
+}
+
+/// What is counted, how often it was there, and how often it has to be.
+type Count = (String, u64, u64);
+
+impl Tally {
+    /// Inputs of both sorts.
+    pub fn compared(&self) -> u64 {
+        self.good + self.bad
+    }
+
+    pub(super) fn note_input(&mut self, is_good: bool) {
+        let count = if is_good { &mut self.good } else { &mut self.bad };
+        *count += 1;
+    }
+
+    /// For random sheets only: what was written by hand says nothing of them.
+    pub(super) fn note_steps(&mut self, sheet: &Sheet) {
+        let commits = self.commits();
+        if let Some(mut machine) = Machine::fresh(sheet.cells()) {
+            sheet.calls().iter().for_each(|call| self.note_step(&mut machine, *call));
+        }
+        let committed = self.commits() > commits;
+        let size = (sheet.cells().len(), sheet.calls().len());
+        self.with_a_commit += u64::from(committed);
+        self.full += u64::from(committed && size == (CELLS_AT_MOST, STEPS_AT_MOST));
+    }
+
+    fn note_step(&mut self, machine: &mut Machine, call: Call) {
+        let was_ignoring = is_ignoring(machine, call.slot);
+        let reply = machine.step(call);
+        self.codes[usize::from(reply.code())] += 1;
+        let Some(step) = Step::numbered(call.step).filter(|_| reply.code() == 0) else {
+            return;
+        };
+        self.done[usize::from(step.number())] += 1;
+        // Enter answers false: something is marked.
+        let marks = step == Step::Enter && reply.word() == 0 && reply != Reply::Done;
+        let ignores = step == Step::Ignore && !was_ignoring && is_ignoring(machine, call.slot);
+        self.marks += u64::from(marks);
+        self.ignores += u64::from(ignores);
+    }
+
+    fn commits(&self) -> u64 {
+        self.done[usize::from(Step::Finish.number())]
+    }
+
+    /// The counts that are below their least.
+    pub fn short(&self, sheets: u64) -> Vec<String> {
+        let short = self.counts().into_iter().filter_map(|(name, count, least)| {
+            let least = least * sheets / LEAST_COUNTS_ARE_FOR;
+            (count < least).then(|| format!("{name}: {count}, and {least} is the least"))
+        });
+        short.collect()
+    }
+
+    fn counts(&self) -> Vec<Count> {
+        let named = [
+            ("random sheets with a commit", self.with_a_commit, 2_000),
+            ("of these with 64 cells and 4096 steps", self.full, 20),
+            ("commits", self.commits(), 10_000),
+            ("enters that mark", self.marks, 1_000),
+            ("reloads", self.done[usize::from(Step::Reload.number())], 4_000),
+            ("ignores that set the flag", self.ignores, 250),
+            ("aborts", self.codes[13], 500),
+        ];
+        let mut counts: Vec<Count> =
+            named.map(|(name, count, least)| (name.to_string(), count, least)).to_vec();
+        // Codes 1 and 12 are out of a sheet's reach, and 13 is an abort.
+        for code in 2..=11 {
+            counts.push((format!("code {code}"), self.codes[code], 500));
+        }
+        for step in Step::ALL {
+            let count = self.done[usize::from(step.number())];
+            counts.push((format!("{} done", step.name()), count, 1_500));
+        }
+        counts
+    }
+}
+
+fn is_ignoring(machine: &Machine, slot: u8) -> bool {
+    let commit = machine.slot(slot).and_then(|own| own.commit());
+    commit.is_some_and(|commit| commit.ignoring)
+}
+
+impl fmt::Display for Tally {
+    fn fmt(&self, f: &mut fmt::Formatter) -> fmt::Result {
+        for (name, count, _) in self.counts() {
+            writeln!(f, "{count:10}  {name}")?;
+        }
+        let (good, bad) = (self.good, self.bad);
+        write!(f, "{:10}  inputs, {good} of them good sheets and {bad} bad", self.compared())
+    }
+}

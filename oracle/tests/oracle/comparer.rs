@@ -1,0 +1,120 @@
+//! The programs `compare` and `sheet_time`, from outside, and how another
+//! program is run.
+
+use std::path::PathBuf;
+use std::process::{Command, Output};
+use std::time::Duration;
+
+use oracle::compare::{Case, Ended, Given, Process};
+
+use crate::sheets::s_binary;
+
+const EXAMPLES: &str = concat!(env!("CARGO_MANIFEST_DIR"), "/../examples/sheets");
+
+fn stand_in(name: &str) -> PathBuf {
+    [env!("CARGO_MANIFEST_DIR"), "tests", "stand-ins", name].iter().collect()
+}
+
+fn run_compare(arguments: &[&str]) -> Output {
+    output_of(env!("CARGO_BIN_EXE_compare"), arguments)
+}
+
+fn run_sheet_time(program: &str) -> Output {
+    output_of(env!("CARGO_BIN_EXE_sheet_time"), &[program, env!("CARGO_TARGET_TMPDIR")])
+}
+
+fn output_of(program: &str, arguments: &[&str]) -> Output {
+    let mut command = Command::new(program);
+    command.args(arguments).env("SHEET", env!("CARGO_BIN_EXE_sheet"));
+    command.output().expect("the program starts")
+}
+
+fn lines(output: &[u8]) -> Vec<String> {
+    String::from_utf8_lossy(output).lines().map(str::to_string).collect()
+}
+
+#[test]
+fn what_is_right_passes() {
+    let right = stand_in("right");
+    let output = run_compare(&[&right.to_string_lossy(), EXAMPLES, "sheets=30", "seed=3"]);
+    let lines = lines(&output.stdout);
+    let last = lines.last().expect("a line");
+    assert!(last.starts_with("compare: ") && last.ends_with(" inputs answered alike, seed 3"));
+    assert_eq!(output.status.code(), Some(0), "{lines:?}");
+    assert!(lines.contains(&"compare: 13 examples".to_string()), "{lines:?}");
+}
+
+#[test]
+fn what_is_wrong_fails_and_the_sheet_is_kept() {
+    let keep = format!("{}/kept.sheet", env!("CARGO_TARGET_TMPDIR"));
+    let output = run_compare(&["cat", EXAMPLES, &format!("keep={keep}")]);
+    assert_eq!(output.status.code(), Some(1));
+    let lines = lines(&output.stdout);
+    assert!(lines.contains(&"compare: FAILED".to_string()), "{lines:?}");
+    assert_eq!(lines.last(), Some(&format!("compare: repeat with `cat < {keep}`")));
+    // The first example by name.
+    let first = std::fs::read(format!("{EXAMPLES}/blocked.txt")).expect("an example");
+    let first = oracle::text::assemble(&first).expect("a good text").encode();
+    assert_eq!(std::fs::read(keep).expect("the sheet"), first);
+}
+
+#[test]
+fn misuse_has_its_own_status() {
+    let misuses: [&[&str]; 6] = [
+        &[],
+        &["cat"],
+        &["cat", EXAMPLES, "sheets=many"],
+        &["cat", EXAMPLES, "calls=5"],
+        &["cat", "no/such/folder"],
+        &["no/such/program", EXAMPLES],
+    ];
+    for arguments in misuses {
+        let output = run_compare(arguments);
+        assert_eq!(output.status.code(), Some(2), "{arguments:?}");
+        assert!(output.stderr.starts_with(b"compare: "), "{arguments:?}");
+    }
+}
+
+fn given(program: PathBuf, time: Duration, case: &Case) -> Given {
+    let process = Process::new(program).within(time);
+    process.run(case).expect("the program starts")
+}
+
+#[test]
+fn a_program_gets_all_bytes_and_what_it_prints_is_gathered() {
+    for in_pieces in [false, true] {
+        let longer_than_a_pipe: Vec<u8> = (0..200_000).map(|place| place as u8).collect();
+        let case = Case { in_pieces, ..Case::new("", longer_than_a_pipe) };
+        let given = given("cat".into(), Duration::from_secs(60), &case);
+        assert_eq!(given.output, case.bytes);
+        assert_eq!((given.errors.len(), given.ended), (0, Ended::WithStatus(0)));
+    }
+}
+
+#[test]
+fn how_a_program_ended_is_told() {
+    let case = Case::new("", s_binary());
+    let ended = |program, time| given(program, Duration::from_millis(time), &case).ended;
+    assert_eq!(ended("true".into(), 60_000), Ended::WithStatus(0));
+    assert_eq!(ended("false".into(), 60_000), Ended::WithStatus(1));
+    assert_eq!(ended(stand_in("killed"), 60_000), Ended::BySignal);
+    assert_eq!(ended(stand_in("endless"), 200), Ended::NotInTime);
+    // Prints for ever, and is cut off.
+    assert_eq!(ended("yes".into(), 60_000), Ended::BySignal);
+}
+
+#[test]
+fn the_time_of_a_sheet() {
+    let output = run_sheet_time(&stand_in("right").to_string_lossy());
+    assert_eq!(output.status.code(), Some(0));
+    let lines = lines(&output.stdout);
+    let steps = lines.iter().skip(2).map(|line| line.split_whitespace().next());
+    assert_eq!(steps.collect::<Vec<_>>(), [Some("4096"), Some("0")], "{lines:?}");
+
+    let other = run_sheet_time("/bin/cat");
+    assert_eq!(other.status.code(), Some(1));
+    let missing = run_sheet_time("no/such/program");
+    assert_eq!(missing.status.code(), Some(0));
+    let said = "time of a sheet: skipped, there is no no/such/program: `make run` builds it\n";
+    assert_eq!(missing.stdout, said.as_bytes());
+}
