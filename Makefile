@@ -1,17 +1,23 @@
 # make test:    all there is, as the gate runs it. Its last line is 'N passed, 0 failed'.
 # make lib:     the static library for C, target/staticlib/libcrocktendril.a.
 # make example: builds and runs examples/c/two_tasks.c, and compares what it prints.
+# make guide:   builds and runs the program in docs/GUIDE.md, and compares what it prints.
 # make fuzz:    random calls at the C functions against the second program (CALLS, SEED).
-# make bench:   the ratio to the Rust yardstick, the stack and the instructions of each step.
-# make sheet:   runs SHEET (a text or binary step sheet) on the second program.
+# make bench:   the ratio to the Rust yardstick, the stack and the instructions of each step, the time of a sheet.
+# make run:     proves and builds the program that runs step sheets, and runs SHEET (text or binary) on it.
+# make sheet:   runs SHEET on the second program.
+# make timeline: the run of SHEET in lanes, as text or (SVG=file.svg) as a picture.
+# make sheets-test: compares the two programs on the examples, on bad sheets and on random ones (SEED).
 SHEET ?= examples/sheets/s.txt
 CALLS ?= 2000000
 SEED ?= 1
 LIBRARY := target/staticlib/libcrocktendril.a
 STRICT := -pedantic -Wall -Wextra -Werror -O2 -Iinclude
 LINKED := oracle/linked/target/release
+PROGRAM := target/bin/run
+SECOND := oracle/target/release
 
-.PHONY: test lib example fuzz bench sheet linked linked-test
+.PHONY: test lib program example guide fuzz bench run sheet timeline second linked linked-test sheets-test
 
 test:
 	@echo "== layout of the sources"
@@ -29,31 +35,64 @@ lib:
 	rt staticlib crocktendril
 	@echo "the library is $(LIBRARY)"
 
+program:
+	@echo "== the program that runs step sheets: proofs and build (minutes from nothing, seconds if nothing has changed)"
+	rt check run
+
 example:
 	@mkdir -p target/c
 	gcc -std=c89 $(STRICT) examples/c/two_tasks.c $(LIBRARY) -o target/c/two_tasks
 	target/c/two_tasks | tee target/c/two_tasks.out
 	diff target/c/two_tasks.out examples/c/two_tasks.expected
 
+# The C blocks of the guide are one program, and what it prints stands under them.
+guide:
+	@mkdir -p target/c
+	awk '/^```c$$/ { on = 1; next } /^```$$/ { on = 0 } on' docs/GUIDE.md > target/c/guide.c
+	gcc -std=c89 $(STRICT) target/c/guide.c $(LIBRARY) -o target/c/guide
+	target/c/guide > target/c/guide.out
+	awk '/^```text$$/ { on = 1; next } /^```$$/ { on = 0 } on' docs/GUIDE.md | diff - target/c/guide.out
+	python3 docs/img/phases.py | diff - docs/img/phases.svg
+
+second:
+	cd oracle && cargo build --release --offline --quiet
+
 linked:
 	cd oracle/linked && cargo build --release --offline --quiet
 
-# What the gate runs once the library is proved and built: it needs nothing of its surroundings but memcpy.
-linked-test: lib linked
-	test "$$(nm -u $(LIBRARY) | awk '$$1 == "U" { print $$2 }')" = memcpy
-	$(MAKE) --no-print-directory example
+# What the gate runs once all is proved: the comparison on sheets, and what is linked with the library, which needs
+# nothing of its surroundings but memcpy and memset.
+linked-test: lib linked sheets-test
+	test "$$(nm -u $(LIBRARY) | awk '$$1 == "U" { print $$2 }' | sort | xargs)" = "memcpy memset"
+	$(MAKE) --no-print-directory example guide
 	cd oracle/linked && cargo fmt --check
 	$(LINKED)/fuzz seed=$(SEED)
+
+# A sheet that the two programs answer differently is kept in target/sheets/failed.sheet.
+sheets-test: program second
+	@mkdir -p target/sheets
+	$(SECOND)/compare $(PROGRAM) examples/sheets seed=$(SEED) keep=target/sheets/failed.sheet
 
 fuzz: lib linked
 	$(LINKED)/fuzz calls=$(CALLS) seed=$(SEED)
 
-bench: lib linked
-	@mkdir -p target/c
+bench: lib linked second
+	@mkdir -p target/c target/sheets
 	gcc -std=c99 $(STRICT) oracle/linked/measure.c $(LIBRARY) -Wl,-z,now -o target/c/measure
 	$(LINKED)/bench
+	$(SECOND)/sheet_time $(PROGRAM) target/sheets
 	{ $(LINKED)/bench cases; $(LINKED)/bench sheet; } | target/c/measure stack
 	python3 oracle/linked/instructions.py $(LINKED)/bench target/c/measure
 
-sheet:
-	cd oracle && cargo run --release --offline --quiet --bin sheet -- run $(abspath $(SHEET))
+run: program second
+	@mkdir -p target/sheets
+	$(SECOND)/sheet assemble "$(SHEET)" > target/sheets/assembled
+	mv target/sheets/assembled target/sheets/run.sheet
+	$(PROGRAM) < target/sheets/run.sheet
+
+sheet: second
+	$(SECOND)/sheet run "$(SHEET)"
+
+# The run of SHEET in lanes: as text, or with SVG=file.svg as a picture.
+timeline: second
+	$(SECOND)/sheet show --timeline "$(SHEET)" $(if $(SVG),--svg "$(SVG)")

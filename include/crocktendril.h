@@ -149,8 +149,9 @@ extern "C" {
  *                    start; a transaction begun anew can read the latter
  *   HELD_BY_ANOTHER  LOCK: another slot holds the cell; RELOAD: another slot
  *                    holds a cell that was read. Trying again may help. But two
- *                    slots can each hold what the other has read: after a
- *                    while, give up
+ *                    slots can each hold what the other has read, and a LOCK
+ *                    and a RELOAD can wait for each other: count the tries,
+ *                    and after a while give up
  *   LAST_STAMP       ENTER, RELOAD: the clock can't go on
  *   ABORTED          FINISH met a mark that is not ignored: the transaction has
  *                    ended without commit, and the slot and its cells are free

@@ -101,12 +101,14 @@ static unsigned make(struct task *task, uint8_t step, uint8_t cell, uint32_t wor
    the next one. Each task writes one cell, so one lock and one publish do. */
 static uint8_t make_usual(struct task *task)
 {
-    make(task, task->next, 0, 0);
+    unsigned code = make(task, task->next, 0, 0);
+
     switch (task->next) {
     case CROCKTENDRIL_STEP_CLOSE:
         return CROCKTENDRIL_STEP_LOCK;
     case CROCKTENDRIL_STEP_LOCK:
-        return CROCKTENDRIL_STEP_ENTER;
+        /* Held by another: once more at the next turn. */
+        return code == CROCKTENDRIL_CODE_DONE ? CROCKTENDRIL_STEP_ENTER : CROCKTENDRIL_STEP_LOCK;
     case CROCKTENDRIL_STEP_ENTER:
         return CROCKTENDRIL_STEP_FINISH;
     case CROCKTENDRIL_STEP_FINISH:
