@@ -22,7 +22,7 @@ use Rattle.rules.specs.AreaRight.{wellFormed}
 use Rattle.rules.specs.Area as area
 use Rattle.rules.specs.Area.{Answered, answered, stepOnBytes, describedCells, fresh, lengthsFit, layOut}
 use Rattle.rules.proofs.Controller.{controller-fits}
-use Rattle.rules.proofs.RoundTrip.{pack-right, state-back}
+use Rattle.rules.proofs.RoundTrip.{pack-right, state-back, round-trip}
 use Rattle.history.proofs.Keeps.{keeps}
 use Rattle.crocktendril.specs.Contract.{Stepped, LaidOut}
 use Rattle.crocktendril.specs.Demands.{Demand1, Demand2}
@@ -106,4 +106,5 @@ demand2 =
             s .answer ∙ ap (λ (x : Answered). replyNumber (x .reply)) here ∙ ap replyNumber (packed-reply (pack controller S) (step controller S call)),
             s .bytes ∙ ap (λ (x : Answered). x .bytes) here ∙ packed-bytes S (step controller S call),
           );
+      roundTrip = round-trip controller controller-fits;
     }

@@ -11,6 +11,7 @@ use Rattle.rules.specs.Outcome.{replyOf, after}
 use Rattle.rules.specs.Step.{Call, step}
 use Rattle.rules.specs.Layout.{pack}
 use Rattle.rules.specs.Area.{stepOnBytes}
+use Rattle.rules.specs.RoundTrip.{RoundTrip}
 use Rattle.crocktendril.specs.Contract.{Stepped, LaidOut}
 
 -- "Arbitrary area contents and arguments get a definite reply."
@@ -30,3 +31,4 @@ pub record Demand1 : Type 0 where
 pub record Demand2 : Type 0 where
   pub stepExact : (S : State) (call : Call) (r : ℕ) (l′ : List ℕ) → stateRight controller S ≡ true → Stepped (pack controller S) call r l′
       → (r ≡ replyNumber (replyOf (step controller S call))) × (l′ ≡ pack controller (after S (step controller S call)))
+  pub roundTrip : RoundTrip controller

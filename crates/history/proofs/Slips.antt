@@ -7,17 +7,17 @@ use Rattle.rules.specs.Step.{step}
 use Rattle.rules.specs.SheetS.{beforeS}
 use Rattle.rules.proofs.Open.{computed}
 use Rattle.history.specs.History.{history, final, commits, sharedReads, logAt, upTo, Demand3}
-use Rattle.history.specs.Slips.{slip, closeMarks, enterStamps, writerBetween, reloadKeeps, reloadLater, readHeld, readUnderHold, publishFrees, readUnpublished}
+use Rattle.history.specs.Slips.{slip, closeMarks, enterStamps, writerBetween, reloadKeeps, reloadLater, readHeld, readUnderHold, publishFrees, readUnpublished, publishPretends, writeAlone}
 
 pub marks-at-close : Demand3 beforeS (history (slip 4 closeMarks (slip 6 enterStamps (step controller))) beforeS writerBetween)
     (final (slip 4 closeMarks (slip 6 enterStamps (step controller))) beforeS writerBetween) → ⊥
 unfolding computed slip closeMarks enterStamps writerBetween history final commits logAt upTo
-marks-at-close d = let wrong : _≡_ {A = ℕ} 5 9 = d .entriesHad .1 .0 .0 refl in omega arith
+marks-at-close d = let wrong : _≡_ {A = ℕ} 5 9 = d .commitsHad .1 .0 refl .0 in omega arith
 
 pub old-stamp-at-reload : Demand3 beforeS (history (slip 10 reloadKeeps (step controller)) beforeS reloadLater)
     (final (slip 10 reloadKeeps (step controller)) beforeS reloadLater) → ⊥
 unfolding computed slip reloadKeeps reloadLater history final commits logAt upTo
-old-stamp-at-reload d = let wrong : _≡_ {A = ℕ} 9 5 = d .entriesHad .1 .0 .0 refl in omega arith
+old-stamp-at-reload d = let wrong : _≡_ {A = ℕ} 9 5 = d .commitsHad .1 .0 refl .0 in omega arith
 
 pub held-cell-read : Demand3 beforeS (history (slip 2 readHeld (step controller)) beforeS readUnderHold)
     (final (slip 2 readHeld (step controller)) beforeS readUnderHold) → ⊥
@@ -28,3 +28,8 @@ pub all-freed-at-once : Demand3 beforeS (history (slip 13 publishFrees (step con
     (final (slip 13 publishFrees (step controller)) beforeS readUnpublished) → ⊥
 unfolding computed slip publishFrees readUnpublished history final commits sharedReads logAt upTo
 all-freed-at-once d = let wrong : _≡_ {A = ℕ} 7 9 = d .readsGave .0 .1 in omega arith
+
+pub only-pretended : Demand3 beforeS (history (slip 13 publishPretends (step controller)) beforeS writeAlone)
+    (final (slip 13 publishPretends (step controller)) beforeS writeAlone) → ⊥
+unfolding computed slip publishPretends writeAlone history final commits logAt upTo
+only-pretended d = let wrong : _≡_ {A = ℕ} 5 9 = d .cellsHold 0 (omega arith) refl in omega arith

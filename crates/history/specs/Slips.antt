@@ -1,4 +1,4 @@
--- The slips that look right, as steps that differ from document 01's in a row or two, and for each a history that shows it.
+-- The slips that look right, and one wrong core, as steps that differ from document 01's in a row or two, and for each a history that shows it.
 use mathlib.Core.Bool.{false, not, cond}
 use mathlib.Core.List.{List, [], _∷_, _++_, map}
 use Prim.Native.Nat.{ℕ, suc, pred}
@@ -123,5 +123,20 @@ readUnpublished =
     ∷ alone 1 2
     ∷ call 2 2 1 0 0
     ∷ []
+
+-- A core that only pretends to publish: the cell is freed with the word that it has.
+unfoldable pub publishPretends : State → Call → Outcome
+publishPretends S a =
+    let i = pred (a .slot) in
+    whenPublishing (slotAt S i) λ ignoring taken start commit reads writes.
+    let x = cellAt S (getD writes taken noWrite .cell) in
+    accepted Done
+    (turn S i (S .clock) (set (S .cells) (getD writes taken noWrite .cell) (publishedAs (x .word) commit x))
+    (publishingOrIdle ignoring (suc taken) start commit reads writes))
+
+-- slot 1 writes cell 0 whole
+unfoldable pub writeAlone : List Call
+writeAlone =
+    alone 1 1 ∷ call 3 1 0 2 9 ∷ alone 4 1 ∷ alone 5 1 ∷ alone 6 1 ∷ alone 12 1 ∷ alone 13 1 ∷ []
 
 -- "Treating one's own hold as a conflict" breaks no sentence of demand 3, since it only marks and refuses more: E12 and the exact step of demand 2 shut it out.

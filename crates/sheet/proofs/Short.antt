@@ -1,4 +1,5 @@
 -- How long the lines of a run are at most.
+use mathlib.Core.Bool.{Bool, true, false, cond}
 use mathlib.Core.List.{List}
 use mathlib.Core.Path.{_≡_, refl}
 use Prim.Native.Nat.{ℕ, zero, suc, _+_, _*_, _%_, _^_, _<_, _≤_}
@@ -20,7 +21,10 @@ use Rattle.rules.specs.Layout.{countIn, cellOf, clockIn}
 use Rattle.rules.specs.Area.{stepOnBytes}
 use Rattle.crocktendril.specs.Contract.{Stepped}
 use Rattle.crocktendril.proofs.Demands.{demand1}
-use Rattle.sheet.specs.Output.{callAt, stepCount, areaAfter, endArea, stepLine, lineInArea, printed}
+use Rattle.sheet.specs.Output.{callAt, stepCount, areaAfter, endArea, stepLine, lineInArea, printed, firstArea, badSheet, output}
+use Rattle.sheet.specs.Apart.{steps, goodSheet}
+use Rattle.sheet.specs.Whole.{LongIsBad}
+use Rattle.sheet.proofs.Apart.{good-parts}
 
 -- n lines of at most `size` bytes
 cat-short : (size n : ℕ) (f : ℕ → List ℕ) → ((i : ℕ) → i < n → length (f i) ≤ size) → length (cat n f) ≤ size * n
@@ -86,3 +90,12 @@ printed-short a l steps bytes cells =
       cat-short 46 (countIn e) (lineInArea e) (λ c h. area-short e bytes c (omega arith)),
       clock-short (clockIn controller e),
     ))
+
+-- a good sheet has at most 33,093 bytes, so a longer one is bad
+pub long-is-bad : LongIsBad
+unfolding output
+long-is-bad s h = by (goodSheet s) (λ p. let g = good-parts s p in omega arith)
+  where
+    by : (b : Bool) → (b ≡ true → ⊥) → cond b (printed (firstArea s) (steps s)) badSheet ≡ badSheet
+    by true n = absurd (n refl)
+    by false n = refl

@@ -2,16 +2,24 @@
 use mathlib.Core.Bool.{Bool, cond}
 use mathlib.Core.List.{List}
 use mathlib.Core.Path.{_≡_}
-use Prim.Native.Nat.{ℕ, _+_, _*_}
+use Prim.Native.Nat.{ℕ, _+_, _*_, _<_}
 use lib.Dec.{leb}
 use lib.ListN.{length}
 use Rattle.wire.specs.Part.{splice}
 use Rattle.slot.specs.Logic.{_and_}
 use Rattle.rules.specs.Model.{controller, areaLength}
+use Rattle.rules.specs.Area.{descriptionSize}
 use Rattle.sheet.specs.declared.Ran.{Ran}
 use Rattle.sheet.specs.declared.Ran.the-variants.{Written, Short}
-use Rattle.sheet.specs.Apart.{mostSteps, steps, goodSheet}
-use Rattle.sheet.specs.Output.{endArea, firstArea, output}
+use Rattle.sheet.specs.Apart.{stepSize, mostSteps, steps, goodSheet}
+use Rattle.sheet.specs.Output.{endArea, firstArea, badSheet, output}
+
+-- the longest good sheet: a program that reads more bytes than that, and no more, knows a longer one
+abbrev pub mostSheet : ℕ
+mostSheet = 5 + descriptionSize * controller .cells + stepSize * mostSteps
+
+abbrev pub LongIsBad : Type 0
+LongIsBad = (s : List ℕ) → mostSheet < length s → output s ≡ badSheet
 
 -- the longest area
 abbrev pub mostArea : ℕ
