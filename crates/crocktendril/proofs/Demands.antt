@@ -1,11 +1,12 @@
--- Demands 1 and 2: the contracts give one answer, and the theorems about the rules say what it is.
+-- The three demands: the contracts give one answer, and the theorems about the rules say what it is.
 use mathlib.Core.Bool.{Bool, true, false, cond}
-use mathlib.Core.List.{List}
-use mathlib.Core.Path.{_≡_, refl, _∙_, ap}
+use mathlib.Core.List.{List, [], _∷_, map}
+use mathlib.Core.Path.{_≡_, refl, sym, _∙_, ap}
 use Prim.Native.Nat.{ℕ, _/_, _%_, _^_, _<_, _≤_}
 use native.Mathlib.Omega.{arith}
 use lib.Dec.{lit<}
 use Rattle.value.specs.Legal.{legalWord}
+use Rattle.wire.specs.Field.{Bytes}
 use Rattle.wire.proofs.Unique.{unique}
 use Rattle.slot.specs.Logic.{all}
 use Rattle.rules.specs.declared.Cell.{Cell}
@@ -20,12 +21,17 @@ use Rattle.rules.specs.Step.{Call, step}
 use Rattle.rules.specs.Layout.{pack, stateOf}
 use Rattle.rules.specs.AreaRight.{wellFormed}
 use Rattle.rules.specs.Area as area
-use Rattle.rules.specs.Area.{Answered, answered, stepOnBytes, describedCells, fresh, lengthsFit, layOut}
+use Rattle.rules.specs.Area.{Answered, answered, stepOnBytes, atRest, describedCells, fresh, lengthsFit, layOut}
 use Rattle.rules.proofs.Controller.{controller-fits}
 use Rattle.rules.proofs.RoundTrip.{pack-right, state-back, round-trip}
+use Rattle.rules.proofs.LaidOut.{laid-right, lays-out}
+use Rattle.history.specs.History.{Event, Demand3}
+use Rattle.history.specs.Keeps.{bytesAfter}
+use Rattle.history.specs.AreaHistory.{areaHistory}
 use Rattle.history.proofs.Keeps.{keeps}
+use Rattle.history.proofs.Histories.{histories}
 use Rattle.crocktendril.specs.Contract.{Stepped, LaidOut}
-use Rattle.crocktendril.specs.Demands.{Demand1, Demand2}
+use Rattle.crocktendril.specs.Demands.{Demand1, Demand2, Made, inTurn, lastLeft, happened, Demand3AtC}
 use Rattle.crocktendril.proofs.Words.{step-word}
 
 abbrev laid : ℕ → List ℕ → area.LaidOut
@@ -107,4 +113,39 @@ demand2 =
             s .bytes ∙ ap (λ (x : Answered). x .bytes) here ∙ packed-bytes S (step controller S call),
           );
       roundTrip = round-trip controller controller-fits;
+    }
+
+-- calls in turn answer what the history of the area says, and leave the bytes that it ends in
+same-answers : (l : List ℕ) (made : List Made) → inTurn l made
+    → map (λ (m : Made). m .answer) made ≡ map (λ (e : Event). replyNumber (e .reply)) (happened l made)
+unfolding inTurn areaHistory
+same-answers l [] turns = refl
+same-answers l (m ∷ made) turns =
+    let here = turns .0 in
+    rw (here .answer, same-answers (m .left) made (turns .1), here .bytes)
+
+same-end : (l : List ℕ) (made : List Made) → inTurn l made → lastLeft l made ≡ bytesAfter controller l (map (λ (m : Made). m .call) made)
+unfolding inTurn lastLeft bytesAfter
+same-end l [] turns = refl
+same-end l (m ∷ made) turns = same-end (m .left) made (turns .1) ∙ ap (λ (b : List ℕ). bytesAfter controller b (map (λ (x : Made). x .call) made)) (turns .0 .bytes)
+
+from-rest : (l : List ℕ) (made : List Made) → Bytes l → atRest controller l ≡ true → inTurn l made
+    → Demand3 (stateOf controller l) (happened l made) (stateOf controller (lastLeft l made))
+from-rest l made bytes rest turns =
+    rw (same-end l made turns) (histories controller controller-fits .ofAreas l bytes rest (map (λ (m : Made). m .call) made))
+
+-- a laid-out area is bytes, and at rest
+laid-bytes : (l ds : List ℕ) → layOut controller l ds .code ≡ 0 → Bytes (layOut controller l ds .bytes)
+laid-bytes l ds done =
+    rw (lays-out controller controller-fits .packed l ds done)
+    (round-trip controller controller-fits .packBytes (fresh controller (describedCells ds)) (laid-right controller controller-fits l ds done))
+
+pub demand3-at-c : Demand3AtC
+demand3-at-c =
+    record {
+      answers = same-answers;
+      fromRest = from-rest;
+      fromLayOut = λ l ds a made laidOut turns.
+          let done = sym (laidOut .answer) in
+          from-rest a made (rw (laidOut .bytes) (laid-bytes l ds done)) (rw (laidOut .bytes) (lays-out controller controller-fits .rests l ds done)) turns;
     }

@@ -1,17 +1,20 @@
--- Demands 1 and 2 of the two functions, as statements about what their contracts allow.
+-- The three demands of the two functions, as statements about what their contracts allow.
 use mathlib.Core.Bool.{true}
-use mathlib.Core.List.{List}
+use mathlib.Core.List.{List, [], _∷_, map}
 use mathlib.Core.Path.{_≡_}
 use Prim.Native.Nat.{ℕ, _/_, _%_, _^_, _≤_}
+use Rattle.wire.specs.Field.{Bytes}
 use Rattle.call.specs.Answer.{replyCode, replyKind, replyWord, replyNumber}
 use Rattle.rules.specs.Model.{controller}
 use Rattle.rules.specs.State.{State}
 use Rattle.rules.specs.StateRight.{stateRight}
 use Rattle.rules.specs.Outcome.{replyOf, after}
 use Rattle.rules.specs.Step.{Call, step}
-use Rattle.rules.specs.Layout.{pack}
-use Rattle.rules.specs.Area.{stepOnBytes}
+use Rattle.rules.specs.Layout.{pack, stateOf}
+use Rattle.rules.specs.Area.{stepOnBytes, atRest}
 use Rattle.rules.specs.RoundTrip.{RoundTrip}
+use Rattle.history.specs.History.{Event, Demand3}
+use Rattle.history.specs.AreaHistory.{areaHistory}
 use Rattle.crocktendril.specs.Contract.{Stepped, LaidOut}
 
 -- "Arbitrary area contents and arguments get a definite reply."
@@ -32,3 +35,32 @@ pub record Demand2 : Type 0 where
   pub stepExact : (S : State) (call : Call) (r : ℕ) (l′ : List ℕ) → stateRight controller S ≡ true → Stepped (pack controller S) call r l′
       → (r ≡ replyNumber (replyOf (step controller S call))) × (l′ ≡ pack controller (after S (step controller S call)))
   pub roundTrip : RoundTrip controller
+
+-- One call of `crocktendril_step`: what was asked, what was answered, and the bytes that it left.
+pub record Made : Type 0 where
+  pub call : Call
+  pub answer : ℕ
+  pub left : List ℕ
+
+-- calls on one area that begins as `l`: each keeps the contract on the bytes that the one before it left
+unfoldable pub inTurn : List ℕ → List Made → Type 0
+inTurn l [] = Unit {0}
+inTurn l (m ∷ made) = Stepped l (m .call) (m .answer) (m .left) × inTurn (m .left) made
+
+unfoldable pub lastLeft : List ℕ → List Made → List ℕ
+lastLeft l [] = l
+lastLeft l (m ∷ made) = lastLeft (m .left) made
+
+-- the history of those calls
+abbrev pub happened : List ℕ → List Made → List Event
+happened l made = areaHistory controller l (map (λ (m : Made). m .call) made)
+
+-- "From an area at rest and any list of calls, the cells, the reads and the commits agree with the replay of the committed write logs in order of commit stamp."
+pub record Demand3AtC : Type 0 where
+  -- the history's replies are what C was answered
+  pub answers : (l : List ℕ) (made : List Made) → inTurn l made
+      → map (λ (m : Made). m .answer) made ≡ map (λ (e : Event). replyNumber (e .reply)) (happened l made)
+  pub fromRest : (l : List ℕ) (made : List Made) → Bytes l → atRest controller l ≡ true → inTurn l made
+      → Demand3 (stateOf controller l) (happened l made) (stateOf controller (lastLeft l made))
+  pub fromLayOut : (l ds a : List ℕ) (made : List Made) → LaidOut l ds 0 a → inTurn a made
+      → Demand3 (stateOf controller a) (happened a made) (stateOf controller (lastLeft a made))
