@@ -38,10 +38,12 @@ pub fn run_either(bytes: &[u8]) -> Result<String, TextError> {
 }
 
 /// The first byte decides. A line of text begins with a printable character
-/// or white space; a binary sheet begins with byte 1, or is a bad one.
+/// or white space; a binary sheet begins with byte 1, or is a bad one. Some
+/// editors put a byte order mark before the first line.
 pub fn looks_like_text(bytes: &[u8]) -> bool {
     let first = bytes.first();
     first.is_some_and(|byte| byte.is_ascii_graphic() || byte.is_ascii_whitespace())
+        || bytes.starts_with(text::BYTE_ORDER_MARK)
 }
 
 fn add_step(out: &mut String, place: usize, reply: Reply) {

@@ -12,6 +12,9 @@ use crate::call::{Call, Step};
 use crate::machine::CELLS_AT_MOST;
 use crate::value::{Kind, Value};
 
+/// What some editors put before the first line of a text.
+pub const BYTE_ORDER_MARK: &[u8] = "\u{feff}".as_bytes();
+
 /// What is wrong with a text, and where.
 #[derive(Clone, Debug, PartialEq, Eq)]
 pub struct TextError {
@@ -85,7 +88,7 @@ fn value_text(value: Value) -> String {
 
 /// The sheet of a text.
 pub fn assemble(bytes: &[u8]) -> Result<Sheet, TextError> {
-    let text = utf8(bytes)?;
+    let text = utf8(unmarked(bytes))?;
     let mut draft = Draft::default();
     let mut last = 1;
     for (line, words) in (1..).zip(text.lines()) {
@@ -94,6 +97,11 @@ pub fn assemble(bytes: &[u8]) -> Result<Sheet, TextError> {
     }
     let sheet = Sheet::new(draft.cells, draft.calls);
     sheet.map_err(|bad| TextError { line: last, what: format!("the text ends here, but {bad}") })
+}
+
+/// A text without the byte order mark before it, if there is one.
+pub fn unmarked(bytes: &[u8]) -> &[u8] {
+    bytes.strip_prefix(BYTE_ORDER_MARK).unwrap_or(bytes)
 }
 
 fn utf8(bytes: &[u8]) -> Result<&str, TextError> {

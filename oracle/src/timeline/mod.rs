@@ -45,7 +45,7 @@ impl Timeline {
     pub fn read(bytes: &[u8]) -> Result<Timeline, String> {
         if looks_like_text(bytes) {
             let sheet = text::assemble(bytes).map_err(|error| error.to_string())?;
-            let words = String::from_utf8_lossy(bytes);
+            let words = String::from_utf8_lossy(text::unmarked(bytes));
             return Timeline::of(&sheet, &words).map_err(|bad| format!("bad sheet: {bad}"));
         }
         let sheet = Sheet::decode(bytes).map_err(|bad| format!("bad sheet: {bad}"))?;

@@ -75,6 +75,16 @@ fn cells_comments_blank_lines_and_line_ends() {
     assert_eq!(sheet.calls(), []);
 }
 
+#[test]
+fn a_byte_order_mark_may_stand_before_the_first_line_only() {
+    let marked = "\u{feff}cell whole 1\r\n";
+    assert!(run::looks_like_text(marked.as_bytes()));
+    assert_eq!(assembled(marked).cells(), [Value::Whole(1)]);
+    assert_eq!(text::unmarked(marked.as_bytes()), b"cell whole 1\r\n");
+    assert!(!run::looks_like_text(b"\xef\xbb"));
+    assert!(text::assemble("cell whole 1\n\u{feff}begin 1".as_bytes()).is_err());
+}
+
 /// A wrong text, the line of its error and what is wrong there.
 const ERRORS: [(&str, usize, &str); 42] = [
     ("", 1, "the text ends here, but a sheet has 1 to 64 cells"),
