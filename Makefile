@@ -16,6 +16,8 @@ STRICT := -pedantic -Wall -Wextra -Werror -O2 -Iinclude
 LINKED := oracle/linked/target/release
 PROGRAM := target/bin/run
 SECOND := oracle/target/release
+# the crates that ask nothing of a caller
+BOUNDARIES := value call line sheet run crocktendril
 
 .PHONY: test lib program example guide fuzz bench run sheet timeline second linked linked-test sheets-test
 
@@ -23,6 +25,8 @@ test:
 	@echo "== layout of the sources"
 	rt fmt --check
 	cd oracle && cargo fmt --check
+	@echo "== nothing is asked of a caller at the boundaries"
+	! grep -rnw requires $(foreach name,$(BOUNDARIES),$(wildcard crates/$(name)/src crates/$(name)/specs))
 	@echo "== the header in C89 and in C++"
 	gcc -std=c89 -x c -fsyntax-only $(STRICT) examples/c/header.cpp
 	g++ -std=c++98 -fsyntax-only $(STRICT) examples/c/header.cpp
