@@ -7,6 +7,7 @@
 # make run:     proves and builds the program that runs step sheets, and runs SHEET (text or binary) on it.
 # make sheet:   runs SHEET on the second program.
 # make timeline: the run of SHEET in lanes, as text or (SVG=file.svg) as a picture.
+# make second:  builds the second program, in oracle/.
 # make sheets-test: compares the two programs on the examples, on bad sheets and on random ones (SEED).
 SHEET ?= examples/sheets/s.txt
 CALLS ?= 2000000
