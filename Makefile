@@ -40,24 +40,30 @@ lib:
 	rt staticlib crocktendril
 	@echo "the library is $(LIBRARY)"
 
+# where it is asked for and not there yet
+$(LIBRARY):
+	$(MAKE) --no-print-directory lib
+
 program:
 	@echo "== the program that runs step sheets: proofs and build (minutes from nothing, seconds if nothing has changed)"
 	rt check run
 
-example:
+example: $(LIBRARY)
 	@mkdir -p target/c
 	gcc -std=c89 $(STRICT) examples/c/two_tasks.c $(LIBRARY) -o target/c/two_tasks
 	target/c/two_tasks | tee target/c/two_tasks.out
 	diff target/c/two_tasks.out examples/c/two_tasks.expected
+	@echo "the example printed what it should"
 
 # The C blocks of the guide are one program, and what it prints stands under them.
-guide:
+guide: $(LIBRARY)
 	@mkdir -p target/c
 	awk '/^```c$$/ { on = 1; next } /^```$$/ { on = 0 } on' docs/GUIDE.md > target/c/guide.c
 	gcc -std=c89 $(STRICT) target/c/guide.c $(LIBRARY) -o target/c/guide
 	target/c/guide > target/c/guide.out
 	awk '/^```text$$/ { on = 1; next } /^```$$/ { on = 0 } on' docs/GUIDE.md | diff - target/c/guide.out
 	python3 docs/img/phases.py | diff - docs/img/phases.svg
+	@echo "the guide's program printed what stands in the guide"
 
 second:
 	cd oracle && cargo build --release --offline --quiet
