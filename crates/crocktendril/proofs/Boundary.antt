@@ -16,11 +16,12 @@ use Rattle.slot.specs.Logic.{_and_}
 use Rattle.slot.proofs.Logic.{and-intro}
 use Rattle.rules.specs.Model.{controller}
 use Rattle.rules.specs.State.{State}
-use Rattle.rules.specs.Outcome.{Outcome, refused, accepted, replyOf}
+use Rattle.rules.specs.Outcome.{Outcome, refused, replyOf}
 use Rattle.rules.specs.Step.{Call, stepOf, step}
 use Rattle.rules.specs.Layout.{stateOf}
 use Rattle.rules.specs.AreaRight.{wellFormed}
 use Rattle.rules.specs.Area.{answered, stepOnBytes}
+use Rattle.history.proofs.Keeps.OnBytes.{answered-reply}
 use Rattle.twilight.specs.Did.{Did}
 use Rattle.crocktendril.specs.Contract.{Stepped}
 
@@ -44,10 +45,6 @@ by-number S a = by (leb 1 (a .step) and leb (a .step) 14) refl
         rw e
         (no-step S (a .slot) (decoded (a .step) (a .cell) (a .kind) (a .word)) (unknown-outside (a .step) (a .cell) (a .kind) (a .word) (outside e)))
 
-same-reply : (l : List ℕ) (o : Outcome) → answered controller l o .reply ≡ replyOf o
-same-reply l (refused r) = refl
-same-reply l (accepted r S) = refl
-
 module _ (l : List ℕ) (a : Call) where
   -- an area that is not well formed gets code 1 and stays
   pub refuses : (r : ℕ) → wellFormed controller l ≡ false → r ≡ replyNumber NotWellFormed → Stepped l a r l
@@ -62,6 +59,6 @@ module _ (l : List ℕ) (a : Call) where
       let o = step controller (stateOf controller l) a in
       let same = by-number (stateOf controller l) a in
       record {
-        answer = rw p (e ∙ ap replyNumber (did .reply ∙ ap replyOf (sym same) ∙ sym (same-reply l o)));
+        answer = rw p (e ∙ ap replyNumber (did .reply ∙ ap replyOf (sym same) ∙ sym (answered-reply controller l o)));
         bytes = rw p (did .bytes ∙ ap (λ (q : Outcome). answered controller l q .bytes) (sym same));
       }

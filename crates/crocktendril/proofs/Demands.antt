@@ -14,21 +14,20 @@ use Rattle.call.specs.declared.Reply.the-variants.{NotWellFormed}
 use Rattle.call.specs.Answer.{replyCode, replyKind, replyWord, replyNumber}
 use Rattle.call.proofs.Answer.{refusal-bare, number-splits}
 use Rattle.rules.specs.Model.{controller}
-use Rattle.rules.specs.State.{State}
-use Rattle.rules.specs.StateRight.{stateRight}
-use Rattle.rules.specs.Outcome.{Outcome, refused, accepted, replyOf, after}
+use Rattle.rules.specs.Outcome.{Outcome, replyOf}
 use Rattle.rules.specs.Step.{Call, step}
 use Rattle.rules.specs.Layout.{pack, stateOf}
 use Rattle.rules.specs.AreaRight.{wellFormed}
 use Rattle.rules.specs.Area as area
 use Rattle.rules.specs.Area.{Answered, answered, stepOnBytes, atRest, describedCells, fresh, lengthsFit, layOut}
 use Rattle.rules.proofs.Controller.{controller-fits}
-use Rattle.rules.proofs.RoundTrip.{pack-right, state-back, round-trip}
+use Rattle.rules.proofs.RoundTrip.{round-trip}
 use Rattle.rules.proofs.LaidOut.{laid-right, lays-out}
 use Rattle.history.specs.History.{Event, Demand3}
 use Rattle.history.specs.Keeps.{bytesAfter}
 use Rattle.history.specs.AreaHistory.{areaHistory}
 use Rattle.history.proofs.Keeps.{keeps}
+use Rattle.history.proofs.Keeps.OnBytes.{answered-reply, stepped-packed}
 use Rattle.history.proofs.Histories.{histories}
 use Rattle.crocktendril.specs.Contract.{Stepped, LaidOut}
 use Rattle.crocktendril.specs.Demands.{Demand1, Demand2, Made, inTurn, lastLeft, happened, Demand3AtC}
@@ -39,8 +38,7 @@ laid code bytes = record { code = code; bytes = bytes }
 
 -- the reply on bytes has a word of 32 bits
 answered-word : (l : List ℕ) (o : Outcome) → replyWord (replyOf o) < 2 ^ 32 → replyWord (answered controller l o .reply) < 2 ^ 32
-answered-word l (refused r) h = h
-answered-word l (accepted r S) h = h
+answered-word l o h = rw (answered-reply controller l o) h
 
 reply-word : (l : List ℕ) (call : Call) → replyWord (stepOnBytes controller l call .reply) < 2 ^ 32
 unfolding stepOnBytes
@@ -90,27 +88,13 @@ demand1 =
           (pack controller (fresh controller (describedCells ds))) l (rw (s .answer) at h);
     }
 
--- on the area of a well-formed state
-packed-reply : (l : List ℕ) (o : Outcome) → answered controller l o .reply ≡ replyOf o
-packed-reply l (refused r) = refl
-packed-reply l (accepted r T) = refl
-
-packed-bytes : (S : State) (o : Outcome) → answered controller (pack controller S) o .bytes ≡ pack controller (after S o)
-packed-bytes S (refused r) = refl
-packed-bytes S (accepted r T) = refl
-
-on-packed : (S : State) (call : Call) → stateRight controller S ≡ true
-    → stepOnBytes controller (pack controller S) call ≡ answered controller (pack controller S) (step controller S call)
-unfolding stepOnBytes
-on-packed S call right = rw (pack-right controller controller-fits S right, state-back controller controller-fits S right)
-
 pub demand2 : Demand2
 demand2 =
     record {
       stepExact = λ S call r l′ right s.
-          let here = on-packed S call right in (
-            s .answer ∙ ap (λ (x : Answered). replyNumber (x .reply)) here ∙ ap replyNumber (packed-reply (pack controller S) (step controller S call)),
-            s .bytes ∙ ap (λ (x : Answered). x .bytes) here ∙ packed-bytes S (step controller S call),
+          let here = stepped-packed controller controller-fits S call right in (
+            s .answer ∙ ap (λ (x : Answered). replyNumber (x .reply)) here,
+            s .bytes ∙ ap (λ (x : Answered). x .bytes) here,
           );
       roundTrip = round-trip controller controller-fits;
     }

@@ -18,18 +18,11 @@ use Rattle.history.specs.History.{history, final}
 use Rattle.history.specs.AreaHistory.{areaHistory, Histories}
 use Rattle.history.specs.Keeps.{bytesAfter}
 use Rattle.history.proofs.Keeps.{keeps}
+use Rattle.history.proofs.Keeps.OnBytes.{stepped, answered-reply}
 use Rattle.history.proofs.Demand3.{demand3}
 
 module _ (M : Model) (fits : FitsBytes M) where
-  -- the reply on bytes, and the state in the bytes after it
-  same-step : (a : List ℕ) (call : Call) → wellFormed M a ≡ true → stepOnBytes M a call ≡ answered M a (step M (stateOf M a) call)
-  unfolding stepOnBytes
-  same-step a call p = rw p
-
-  same-reply : (a : List ℕ) (o : Outcome) → answered M a o .reply ≡ replyOf o
-  same-reply a (refused r) = refl
-  same-reply a (accepted r T) = refl
-
+  -- the state in the bytes after a step
   same-state : (a : List ℕ) (o : Outcome) → stateRight M (after (stateOf M a) o) ≡ true → stateOf M (answered M a o .bytes) ≡ after (stateOf M a) o
   same-state a (refused r) right = refl
   same-state a (accepted r T) right = state-back M fits T right
@@ -41,10 +34,10 @@ module _ (M : Model) (fits : FitsBytes M) where
   same-history (call ∷ calls) a bytes p =
       let S = stateOf M a in
       let o = step M S call in
-      let here = same-step a call p in
+      let here = stepped M a call p in
       let next : stateOf M (stepOnBytes M a call .bytes) ≡ after S o =
       ap (λ (x : Answered). stateOf M (x .bytes)) here ∙ same-state a o (keeps M fits .stateKept S call (state-right M a bytes p)) in
-      let reply : stepOnBytes M a call .reply ≡ replyOf o = ap (λ (x : Answered). x .reply) here ∙ same-reply a o in
+      let reply : stepOnBytes M a call .reply ≡ replyOf o = ap (λ (x : Answered). x .reply) here ∙ answered-reply M a o in
       ap₂ _∷_ (λ i. record { before = S; call = call; reply = reply i })
       (same-history calls (stepOnBytes M a call .bytes) (keeps M fits .bytesKept a call bytes p) (keeps M fits .areaKept a call bytes p)
       ∙ ap (λ (T : State). history (step M) T calls) next)
@@ -56,7 +49,7 @@ module _ (M : Model) (fits : FitsBytes M) where
       let S = stateOf M a in
       let o = step M S call in
       let next : stateOf M (stepOnBytes M a call .bytes) ≡ after S o =
-      ap (λ (x : Answered). stateOf M (x .bytes)) (same-step a call p) ∙ same-state a o (keeps M fits .stateKept S call (state-right M a bytes p)) in
+      ap (λ (x : Answered). stateOf M (x .bytes)) (stepped M a call p) ∙ same-state a o (keeps M fits .stateKept S call (state-right M a bytes p)) in
       same-final calls (stepOnBytes M a call .bytes) (keeps M fits .bytesKept a call bytes p) (keeps M fits .areaKept a call bytes p)
       ∙ ap (λ (T : State). final (step M) T calls) next
 

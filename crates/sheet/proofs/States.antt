@@ -9,13 +9,14 @@ use Rattle.wire.proofs.Laws.Table.{cat-ext, length-tab, getD-tab}
 use Rattle.rules.specs.Model.{controller, cellOffset}
 use Rattle.rules.specs.State.{State, noCell, cellCount, cellAt}
 use Rattle.rules.specs.StateRight.{stateRight}
-use Rattle.rules.specs.Outcome.{Outcome, refused, accepted, replyOf, after}
+use Rattle.rules.specs.Outcome.{replyOf, after}
 use Rattle.rules.specs.Step.{Call, step}
 use Rattle.rules.specs.Layout.{pack, cellOf, countIn, clockIn, cellsIn, stateOf}
-use Rattle.rules.specs.Area.{Answered, answered, stepOnBytes}
+use Rattle.rules.specs.Area.{Answered, stepOnBytes}
 use Rattle.rules.proofs.Controller.{controller-fits}
-use Rattle.rules.proofs.RoundTrip.{pack-right, state-back}
+use Rattle.rules.proofs.RoundTrip.{state-back}
 use Rattle.history.proofs.Keeps.{keeps}
+use Rattle.history.proofs.Keeps.OnBytes.{stepped-packed}
 use Rattle.line.specs.Line.{clockLine}
 use Rattle.sheet.specs.Apart.{steps}
 use Rattle.sheet.specs.Output.{callAt, stepCount, areaAfter, lineOf, stepLine, lineOfCell, lineInArea, printed, output}
@@ -25,23 +26,11 @@ use Rattle.sheet.proofs.First.{first-packed, first-right}
 
 -- one step
 module _ (S : State) (right : stateRight controller S ≡ true) (call : Call) where
-  on-packed : stepOnBytes controller (pack controller S) call ≡ answered controller (pack controller S) (step controller S call)
-  unfolding stepOnBytes
-  on-packed = rw (pack-right controller controller-fits S right, state-back controller controller-fits S right)
-
-  same-bytes : (o : Outcome) → answered controller (pack controller S) o .bytes ≡ pack controller (after S o)
-  same-bytes (refused r) = refl
-  same-bytes (accepted r T) = refl
-
-  same-reply : (o : Outcome) → answered controller (pack controller S) o .reply ≡ replyOf o
-  same-reply (refused r) = refl
-  same-reply (accepted r T) = refl
-
   step-bytes : stepOnBytes controller (pack controller S) call .bytes ≡ pack controller (after S (step controller S call))
-  step-bytes = ap (λ (x : Answered). x .bytes) on-packed ∙ same-bytes (step controller S call)
+  step-bytes = ap (λ (x : Answered). x .bytes) (stepped-packed controller controller-fits S call right)
 
   step-reply : stepOnBytes controller (pack controller S) call .reply ≡ replyOf (step controller S call)
-  step-reply = ap (λ (x : Answered). x .reply) on-packed ∙ same-reply (step controller S call)
+  step-reply = ap (λ (x : Answered). x .reply) (stepped-packed controller controller-fits S call right)
 
 -- the lines of a state at its end
 module _ (T : State) (right : stateRight controller T ≡ true) where

@@ -25,9 +25,13 @@ use Rattle.history.proofs.Keeps.Codes.{Coded, step-coded}
 
 module _ (M : Model) where
   -- the step on a well-formed area
-  stepped : (a : List ℕ) (call : Call) → wellFormed M a ≡ true → stepOnBytes M a call ≡ answered M a (step M (stateOf M a) call)
+  pub stepped : (a : List ℕ) (call : Call) → wellFormed M a ≡ true → stepOnBytes M a call ≡ answered M a (step M (stateOf M a) call)
   unfolding stepOnBytes
   stepped a call right = rw right
+
+  pub answered-reply : (a : List ℕ) (o : Outcome) → answered M a o .reply ≡ replyOf o
+  answered-reply a (refused r) = refl
+  answered-reply a (accepted r T) = refl
 
   never-1 : (a : List ℕ) (o : Outcome) → Coded o → replyCode (answered M a o .reply) ≡ 1 → ⊥
   never-1 a (refused r) c e = omega (arith, leb→le 2 (replyCode r) (c .0))
@@ -82,7 +86,7 @@ module _ (M : Model) (fits : FitsBytes M) where
   answered-packed S (refused r) = refl
   answered-packed S (accepted r T) = refl
 
-  stepped-packed : (S : State) (call : Call) → stateRight M S ≡ true
+  pub stepped-packed : (S : State) (call : Call) → stateRight M S ≡ true
       → stepOnBytes M (pack M S) call ≡ record { reply = replyOf (step M S call); bytes = pack M (after S (step M S call)) }
   stepped-packed S call right =
       stepped M (pack M S) call (pack-right M fits S right)
