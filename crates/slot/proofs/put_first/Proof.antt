@@ -55,8 +55,8 @@ five a at u v x y z h =
 
 returns : tie.Need-returns
 returns c =
-    let args = c .before .before .args in
-    let pre = c .before .before .pre in
+    let args = let c : tie.Start = search in c .args in
+    let pre = let c : tie.Start = search in c .pre in
     let byte-of = c .byte-of in
     rw (← byte-of .ensures)
     (five (args .s .now) (args .at) (args .phase) (byte-of .result) (args .taken) (args .readcount) (args .writecount) (pre))

@@ -33,14 +33,16 @@ put-requires : tie.Need-put-requires
 put-requires c κs = simp length-set (omega arith)
 
 same-length : tie.Need-same-length
-same-length c = c .before .before .put .kept .0 ∙ simp length-set
+same-length c =
+    let put = let c : tie.After-put = search in c .put .kept in
+    put .0 ∙ simp length-set
 
 returns : tie.Need-returns
 unfolding readBytes
 returns c =
-    let args = c .before .before .before .before .before .before .before .args in
-    let byte-of = c .before .before .before .before .before .byte-of in
-    let put = c .before .before .put in
+    let args = let c : tie.Start = search in c .args in
+    let byte-of = let c : tie.After-byte-of = search in c .byte-of in
+    let put = let c : tie.After-put = search in c .put in
     let a = args .s .now in
     let at = args .at in
     let cell = args .e .cell in

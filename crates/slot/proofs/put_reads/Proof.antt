@@ -45,9 +45,9 @@ loop-less c = omega arith
 
 loop-again : tie.Need-loop-again Inv-loop μ-loop
 loop-again c =
-    let args = c .before .before .before .before .before .before .before .before .args in
-    let loop = c .before .before .before .before .before .before .loop in
-    let put-read = c .before .before .put-read in
+    let args = let c : tie.Start Inv-loop μ-loop = search in c .args in
+    let loop = let c : tie.At-loop Inv-loop μ-loop = search in c .loop in
+    let put-read = let c : tie.After-put-read Inv-loop μ-loop = search in c .put-read in
     let part : ℕ → List ℕ = (λ j. readBytes (getD (args .t3) j noRead)) in (
       omega arith,
       put-read .kept .0 ∙ loop .inv .1,

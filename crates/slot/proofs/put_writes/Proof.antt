@@ -45,9 +45,9 @@ loop-less c = omega arith
 
 loop-again : tie.Need-loop-again Inv-loop μ-loop
 loop-again c =
-    let args = c .before .before .before .before .before .before .before .before .args in
-    let loop = c .before .before .before .before .before .before .loop in
-    let put-write = c .before .before .put-write in
+    let args = let c : tie.Start Inv-loop μ-loop = search in c .args in
+    let loop = let c : tie.At-loop Inv-loop μ-loop = search in c .loop in
+    let put-write = let c : tie.After-put-write Inv-loop μ-loop = search in c .put-write in
     let part : ℕ → List ℕ = (λ j. writeBytes (getD (args .t3) j noWrite)) in (
       omega arith,
       put-write .kept .0 ∙ loop .inv .1,

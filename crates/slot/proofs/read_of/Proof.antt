@@ -28,7 +28,7 @@ word-at-requires c κs = search needs
 returns : tie.Need-returns
 unfolding readOf
 returns c =
-    let args = c .before .before .before .before .args in
+    let args = let c : tie.Start = search in c .args in
     let word-at = c .word-at in
     let word-back : word-at .result ≡ be 4 (drop 2 (drop (args .at) (args .s .now))) =
     word-at .ensures ∙ ap (be 4) (sym (drop-drop 2 (args .at) (args .s .now))) in

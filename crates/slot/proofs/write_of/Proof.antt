@@ -21,9 +21,10 @@ word-at-requires c κs = search needs
 returns : tie.Need-returns
 unfolding writeOf
 returns c =
-    let word-back : c .word-at .result ≡ be 4 (drop 1 (drop (c .before .before .before .args .at) (c .before .before .before .args .s .now))) =
-    c .word-at .ensures ∙ ap (be 4) (sym (drop-drop 1 (c .before .before .before .args .at) (c .before .before .before .args .s .now))) in
-    λ i. record { cell = first-byte (c .before .before .before .args .s .now) (c .before .before .before .args .at) i; word = word-back i }
+    let start = let c : tie.Start = search in c in
+    let word-back : c .word-at .result ≡ be 4 (drop 1 (drop (start .args .at) (start .args .s .now))) =
+    c .word-at .ensures ∙ ap (be 4) (sym (drop-drop 1 (start .args .at) (start .args .s .now))) in
+    λ i. record { cell = first-byte (start .args .s .now) (start .args .at) i; word = word-back i }
 
 pub write-of-spec : {M : Type 1} → statement M
 write-of-spec = tie.close (tie.spec shared-slice-read-t4 add-word-at word-at-requires returns)

@@ -42,14 +42,14 @@ loop-less c = omega arith
 
 loop-again : tie.Need-loop-again Inv-loop μ-loop
 loop-again c =
-    let args = c .before .before .before .before .args in
-    let loop = c .before .before .loop in
+    let args = let c : tie.Start Inv-loop μ-loop = search in c .args in
+    let loop = let c : tie.At-loop Inv-loop μ-loop = search in c .loop in
     let write-of = c .write-of in
     (omega arith, rw (write-of .ensures) (fill-step (λ j. writeOf (drop (args .at + writeSize * j) (args .s .now))) (replicate 16 noWrite) (loop .log) (loop .i) (omega arith) (loop .inv .1)))
 
 returns : tie.Need-returns Inv-loop μ-loop
 returns c =
-    let args = c .before .before .before .args in
+    let args = let c : tie.Start Inv-loop μ-loop = search in c .args in
     let loop = c .before .loop in
     let whole : loop .i ≡ 16 = omega arith in
     fill-end (λ j. writeOf (drop (args .at + writeSize * j) (args .s .now))) (replicate 16 noWrite) (loop .log) 16 (omega arith) (rw whole at (loop .inv .1))

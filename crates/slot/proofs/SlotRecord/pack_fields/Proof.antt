@@ -35,14 +35,21 @@ same-length c = search needs
 
 returns : tie.Need-returns
 returns c =
-    let a = (c .before .before .before .before .before .before .before .before .before .before .before .before .before .args .s .now) in
-    let at = (c .before .before .before .before .before .before .before .before .before .before .before .before .before .args .at) in
-    let w = (c .before .before .before .before .before .before .before .before .before .before .before .before .before .args .width) in
-    let v = (c .before .before .before .before .before .before .before .before .before .before .before .before .before .args .self) in
-    let fits : at + slotSize w ≤ length a = (c .before .before .before .before .before .before .before .before .before .before .before .before .before .pre) in
+    let start = let c : tie.After-put-first = search in let c : tie.Start = search in c in
+    let put-first-last = let c : tie.After-put-first = search in c .put-first .last in
+    let put-first-ensures = let c : tie.After-put-first = search in c .put-first .ensures in
+    let put-last = let c : tie.After-put = search in c .put .last in
+    let put-ensures = let c : tie.After-put = search in c .put .ensures in
+    let put2-last = let c : tie.After-put2 = search in c .put2 .last in
+    let put2-ensures = let c : tie.After-put2 = search in c .put2 .ensures in
+    let a = (start .args .s .now) in
+    let at = (start .args .at) in
+    let w = (start .args .width) in
+    let v = (start .args .self) in
+    let fits : at + slotSize w ≤ length a = (start .pre) in
     three a at (v .phase ∷ bit (v .ignoring) ∷ v .taken ∷ v .readcount ∷ v .writecount ∷ []) (toBe w (v .start)) (toBe w (v .commit))
-    (at + 5) (at + 5 + w) (c .before .before .before .before .before .before .before .before .before .before .put-first .last .0) (c .before .before .before .before .before .before .put .last .0) (c .before .before .put2 .last .0)
-    (omega arith) refl (rw length-toBe) (c .before .before .before .before .before .before .before .before .before .before .put-first .ensures) (c .before .before .before .before .before .before .put .ensures) (c .before .before .put2 .ensures)
+    (at + 5) (at + 5 + w) (put-first-last .0) (put-last .0) (put2-last .0)
+    (omega arith) refl (rw length-toBe) put-first-ensures put-ensures put2-ensures
 
 pub pack-fields-spec : {M : Type 1} → statement M
 pack-fields-spec =

@@ -38,8 +38,10 @@ same-length c = search needs
 
 returns : tie.Need-returns
 returns c =
-    let place : (c .before .before .before .before .before .before .args .at) + 5 + 2 * (c .before .before .before .before .before .before .args .width) + 6 * (c .before .before .before .before .before .before .args .k) ≡ (c .before .before .before .before .before .before .args .at) + (readsAt (c .before .before .before .before .before .before .args .width) + readSize * (c .before .before .before .before .before .before .args .k)) = omega arith in
-    (c .before .before .put-read .ensures) ∙ ap (λ (k : ℕ). splice (c .before .before .before .before .before .before .args .s .now) k (readBytes (getD (c .before .before .before .before .before .before .args .t1 .reads) (c .before .before .before .before .before .before .args .k) noRead))) place
+    let start = let c : tie.Start = search in c in
+    let put-read = let c : tie.After-put-read = search in c .put-read .ensures in
+    let place : (start .args .at) + 5 + 2 * (start .args .width) + 6 * (start .args .k) ≡ (start .args .at) + (readsAt (start .args .width) + readSize * (start .args .k)) = omega arith in
+    put-read ∙ ap (λ (k : ℕ). splice (start .args .s .now) k (readBytes (getD (start .args .t1 .reads) (start .args .k) noRead))) place
 
 pub pack-read-spec : {M : Type 1} → statement M
 pack-read-spec =

@@ -25,8 +25,10 @@ same-length c = search needs
 
 returns : tie.Need-returns
 returns c =
-    let place : (c .before .before .before .before .before .before .args .at) + 5 + 2 * (c .before .before .before .before .before .before .args .width) ≡ (c .before .before .before .before .before .before .args .at) + readsAt (c .before .before .before .before .before .before .args .width) = omega arith in
-    (c .before .before .put-reads .ensures) ∙ ap (λ (k : ℕ). splice (c .before .before .before .before .before .before .args .s .now) k (readLogBytes (c .before .before .before .before .before .before .args .self .reads))) place
+    let start = let c : tie.Start = search in c in
+    let put-reads = let c : tie.After-put-reads = search in c .put-reads .ensures in
+    let place : (start .args .at) + 5 + 2 * (start .args .width) ≡ (start .args .at) + readsAt (start .args .width) = omega arith in
+    put-reads ∙ ap (λ (k : ℕ). splice (start .args .s .now) k (readLogBytes (start .args .self .reads))) place
 
 pub pack-reads-spec : {M : Type 1} → statement M
 pack-reads-spec =

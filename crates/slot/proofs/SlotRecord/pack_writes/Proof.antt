@@ -28,8 +28,10 @@ same-length c = search needs
 
 returns : tie.Need-returns
 returns c =
-    let place : (c .before .before .before .before .before .before .args .at) + 5 + 2 * (c .before .before .before .before .before .before .args .width) + 96 ≡ (c .before .before .before .before .before .before .args .at) + writesAt (c .before .before .before .before .before .before .args .width) = omega arith in
-    (c .before .before .put-writes .ensures) ∙ ap (λ (k : ℕ). splice (c .before .before .before .before .before .before .args .s .now) k (writeLogBytes (c .before .before .before .before .before .before .args .self .writes))) place
+    let start = let c : tie.Start = search in c in
+    let put-writes = let c : tie.After-put-writes = search in c .put-writes .ensures in
+    let place : (start .args .at) + 5 + 2 * (start .args .width) + 96 ≡ (start .args .at) + writesAt (start .args .width) = omega arith in
+    put-writes ∙ ap (λ (k : ℕ). splice (start .args .s .now) k (writeLogBytes (start .args .self .writes))) place
 
 pub pack-writes-spec : {M : Type 1} → statement M
 pack-writes-spec =

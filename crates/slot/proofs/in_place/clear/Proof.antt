@@ -47,19 +47,26 @@ loop-less : tie.Need-loop-less Inv-loop μ-loop
 loop-less c = omega arith
 
 loop-again : tie.Need-loop-again Inv-loop μ-loop
-loop-again c = (
-  omega arith,
-  length-set {A = ℕ} (c .before .loop .s) (c .before .before .args .at + c .before .loop .k) 0 ∙ (c .before .loop .inv .1),
-  zero-next (c .before .before .args .s .now) (c .before .before .args .at) (c .before .loop .k) (c .before .loop .s) (omega arith) (c .before .loop .inv .2),
-)
+loop-again c =
+    let start = let c : tie.Start Inv-loop μ-loop = search in c in
+    let loop-s = let c : tie.At-loop Inv-loop μ-loop = search in c .loop .s in
+    let loop-k = let c : tie.At-loop Inv-loop μ-loop = search in c .loop .k in
+    let loop-inv = let c : tie.At-loop Inv-loop μ-loop = search in c .loop .inv in (
+      omega arith,
+      length-set {A = ℕ} loop-s (start .args .at + loop-k) 0 ∙ (loop-inv .1),
+      zero-next (start .args .s .now) (start .args .at) loop-k loop-s (omega arith) (loop-inv .2),
+    )
 
 same-length : tie.Need-same-length Inv-loop μ-loop
 same-length c = omega arith
 
 returns : tie.Need-returns Inv-loop μ-loop
 returns c =
-    let all : (c .before .loop .k) ≡ slotSize (c .before .before .args .width) = omega arith in
-    (c .before .loop .inv .2) ∙ ap (λ (k : ℕ). splice (c .before .before .args .s .now) (c .before .before .args .at) (replicate k 0)) all ∙ ap (splice (c .before .before .args .s .now) (c .before .before .args .at)) (sym (empty-bytes (c .before .before .args .width)))
+    let start = let c : tie.Start Inv-loop μ-loop = search in c in
+    let loop-k = let c : tie.At-loop Inv-loop μ-loop = search in c .loop .k in
+    let loop-inv = let c : tie.At-loop Inv-loop μ-loop = search in c .loop .inv in
+    let all : loop-k ≡ slotSize (start .args .width) = omega arith in
+    (loop-inv .2) ∙ ap (λ (k : ℕ). splice (start .args .s .now) (start .args .at) (replicate k 0)) all ∙ ap (splice (start .args .s .now) (start .args .at)) (sym (empty-bytes (start .args .width)))
 
 pub clear-spec : {M : Type 1} → statement M
 clear-spec =

@@ -58,9 +58,9 @@ get-requires-2 c κs = search needs
 returns : tie.Need-returns
 unfolding slotOf
 returns c =
-    let l = (c .before .before .before .before .before .before .before .before .args .s .now) in
-    let at = (c .before .before .before .before .before .before .before .before .args .at) in
-    let w = (c .before .before .before .before .before .before .before .before .args .width) in
+    let l = let c : tie.Start = search in c .args .s .now in
+    let at = let c : tie.Start = search in c .args .at in
+    let w = let c : tie.Start = search in c .args .width in
     let start-back : (c .before .get .result) ≡ be w (drop startAt (drop at l)) = (c .before .get .ensures) ∙ ap (be w) (from l at startAt (at + 5) refl) in
     let commit-back : (c .get2 .result) ≡ be w (drop (commitAt w) (drop at l)) =
     (c .get2 .ensures) ∙ ap (be w) (from l at (commitAt w) (at + 5 + w) (add-assoc at 5 w)) in

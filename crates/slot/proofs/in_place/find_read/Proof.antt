@@ -40,7 +40,9 @@ shared-slice-read-count : tie.Need-shared-slice-read-count Inv-loop μ-loop
 shared-slice-read-count c = search needs
 
 cast-count : tie.Need-cast-count Inv-loop μ-loop
-cast-count c = omega (arith, c .shared-slice-known2 .given ((c .before .before .args .at) + 3))
+cast-count c =
+    let start = let c : tie.Start Inv-loop μ-loop = search in c in
+    omega (arith, c .shared-slice-known2 .given ((start .args .at) + 3))
 
 loop-holds : tie.Need-loop-holds Inv-loop μ-loop
 loop-holds c = refl
@@ -57,14 +59,16 @@ read-of-requires c κs = omega arith
 returns : tie.Need-returns Inv-loop μ-loop
 unfolding slotOf readEntry
 returns c =
-    let args = (c .before .before .before .before .before .before .before .before .args) in
-    let loop = (c .before .before .before .before .before .loop) in
+    let if1 = let c : tie.Then1 Inv-loop μ-loop = search in c .if1 .taken in
+    let read-of = let c : tie.After-read-of Inv-loop μ-loop = search in c .read-of .ensures in
+    let args = let c : tie.Start Inv-loop μ-loop = search in c .args in
+    let loop = let c : tie.At-loop Inv-loop μ-loop = search in c .loop in
     let l = args .s .now in
     let log = slotOf (args .width) (drop (args .at) l) .reads in
-    let here = (c .before .before .read-of .ensures) ∙ entry-from readCapacity readSize readOf l (args .at) (readsAt (args .width)) _ (omega arith) noRead (loop .i) (omega arith) in
+    let here = read-of ∙ entry-from readCapacity readSize readOf l (args .at) (readsAt (args .width)) _ (omega arith) noRead (loop .i) (omega arith) in
     ap readFound
     (entry-found (λ (e : ReadEntry). eqb (e .cell) (args .cell)) noRead log _ _ (loop .i)
-    (sym (getD-drop (args .at) l 3 0)) (length-tab 16 _) (loop .inv) (ltb-true _ _ (c .before .before .before .if1 .taken)) (omega arith) here (eq-eqb _ _ (c .if2 .taken)))
+    (sym (getD-drop (args .at) l 3 0)) (length-tab 16 _) (loop .inv) (ltb-true _ _ if1) (omega arith) here (eq-eqb _ _ (c .if2 .taken)))
 
 add-i : tie.Need-add-i Inv-loop μ-loop
 add-i c = omega arith
@@ -75,19 +79,21 @@ loop-less c = omega arith
 loop-again : tie.Need-loop-again Inv-loop μ-loop
 unfolding slotOf readEntry
 loop-again c =
-    let args = (c .before .before .before .before .before .before .before .before .args) in
-    let loop = (c .before .before .before .before .before .loop) in
+    let if1 = let c : tie.Then1 Inv-loop μ-loop = search in c .if1 .taken in
+    let read-of = let c : tie.After-read-of Inv-loop μ-loop = search in c .read-of .ensures in
+    let args = let c : tie.Start Inv-loop μ-loop = search in c .args in
+    let loop = let c : tie.At-loop Inv-loop μ-loop = search in c .loop in
     let l = args .s .now in
     let log = slotOf (args .width) (drop (args .at) l) .reads in
-    let here = (c .before .before .read-of .ensures) ∙ entry-from readCapacity readSize readOf l (args .at) (readsAt (args .width)) _ (omega arith) noRead (loop .i) (omega arith) in
+    let here = read-of ∙ entry-from readCapacity readSize readOf l (args .at) (readsAt (args .width)) _ (omega arith) noRead (loop .i) (omega arith) in
     entry-next (λ (e : ReadEntry). eqb (e .cell) (args .cell)) noRead log _ _ (loop .i)
-    (sym (getD-drop (args .at) l 3 0)) (length-tab 16 _) (loop .inv) (ltb-true _ _ (c .before .before .before .if1 .taken)) (omega arith) here (ne-eqb _ _ (c .if2 .left))
+    (sym (getD-drop (args .at) l 3 0)) (length-tab 16 _) (loop .inv) (ltb-true _ _ if1) (omega arith) here (ne-eqb _ _ (c .if2 .left))
 
 returns-2 : tie.Need-returns-2 Inv-loop μ-loop
 unfolding slotOf readEntry
 returns-2 c =
-    let args = (c .before .before .before .before .before .args) in
-    let loop = (c .before .before .loop) in
+    let args = let c : tie.Start Inv-loop μ-loop = search in c .args in
+    let loop = let c : tie.At-loop Inv-loop μ-loop = search in c .loop in
     let l = args .s .now in
     let log = slotOf (args .width) (drop (args .at) l) .reads in
     ap readFound (entry-none (λ (e : ReadEntry). eqb (e .cell) (args .cell)) noRead log _ _ (loop .i)
@@ -96,7 +102,7 @@ returns-2 c =
 returns-3 : tie.Need-returns-3 Inv-loop μ-loop
 unfolding slotOf readEntry
 returns-3 c =
-    let args = (c .before .before .before .before .args) in
+    let args = let c : tie.Start Inv-loop μ-loop = search in c .args in
     let loop = (c .before .loop) in
     let l = args .s .now in
     let log = slotOf (args .width) (drop (args .at) l) .reads in

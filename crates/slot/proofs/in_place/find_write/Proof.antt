@@ -43,7 +43,9 @@ shared-slice-read-count : tie.Need-shared-slice-read-count Inv-loop μ-loop
 shared-slice-read-count c = search needs
 
 cast-count : tie.Need-cast-count Inv-loop μ-loop
-cast-count c = omega (arith, c .shared-slice-known2 .given ((c .before .before .args .at) + 4))
+cast-count c =
+    let start = let c : tie.Start Inv-loop μ-loop = search in c in
+    omega (arith, c .shared-slice-known2 .given ((start .args .at) + 4))
 
 loop-holds : tie.Need-loop-holds Inv-loop μ-loop
 loop-holds c = refl
@@ -60,14 +62,16 @@ write-of-requires c κs = omega arith
 returns : tie.Need-returns Inv-loop μ-loop
 unfolding slotOf writeEntry
 returns c =
-    let args = (c .before .before .before .before .before .before .before .before .args) in
-    let loop = (c .before .before .before .before .before .loop) in
+    let if1 = let c : tie.Then1 Inv-loop μ-loop = search in c .if1 .taken in
+    let write-of = let c : tie.After-write-of Inv-loop μ-loop = search in c .write-of .ensures in
+    let args = let c : tie.Start Inv-loop μ-loop = search in c .args in
+    let loop = let c : tie.At-loop Inv-loop μ-loop = search in c .loop in
     let l = args .s .now in
     let log = slotOf (args .width) (drop (args .at) l) .writes in
-    let here = (c .before .before .write-of .ensures) ∙ entry-from writeCapacity writeSize writeOf l (args .at) (writesAt (args .width)) _ (omega arith) noWrite (loop .i) (omega arith) in
+    let here = write-of ∙ entry-from writeCapacity writeSize writeOf l (args .at) (writesAt (args .width)) _ (omega arith) noWrite (loop .i) (omega arith) in
     ap writeFound
     (entry-found (λ (e : WriteEntry). eqb (e .cell) (args .cell)) noWrite log _ _ (loop .i)
-    (sym (getD-drop (args .at) l 4 0)) (length-tab 16 _) (loop .inv) (ltb-true _ _ (c .before .before .before .if1 .taken)) (omega arith) here (eq-eqb _ _ (c .if2 .taken)))
+    (sym (getD-drop (args .at) l 4 0)) (length-tab 16 _) (loop .inv) (ltb-true _ _ if1) (omega arith) here (eq-eqb _ _ (c .if2 .taken)))
 
 add-i : tie.Need-add-i Inv-loop μ-loop
 add-i c = omega arith
@@ -78,19 +82,21 @@ loop-less c = omega arith
 loop-again : tie.Need-loop-again Inv-loop μ-loop
 unfolding slotOf writeEntry
 loop-again c =
-    let args = (c .before .before .before .before .before .before .before .before .args) in
-    let loop = (c .before .before .before .before .before .loop) in
+    let if1 = let c : tie.Then1 Inv-loop μ-loop = search in c .if1 .taken in
+    let write-of = let c : tie.After-write-of Inv-loop μ-loop = search in c .write-of .ensures in
+    let args = let c : tie.Start Inv-loop μ-loop = search in c .args in
+    let loop = let c : tie.At-loop Inv-loop μ-loop = search in c .loop in
     let l = args .s .now in
     let log = slotOf (args .width) (drop (args .at) l) .writes in
-    let here = (c .before .before .write-of .ensures) ∙ entry-from writeCapacity writeSize writeOf l (args .at) (writesAt (args .width)) _ (omega arith) noWrite (loop .i) (omega arith) in
+    let here = write-of ∙ entry-from writeCapacity writeSize writeOf l (args .at) (writesAt (args .width)) _ (omega arith) noWrite (loop .i) (omega arith) in
     entry-next (λ (e : WriteEntry). eqb (e .cell) (args .cell)) noWrite log _ _ (loop .i)
-    (sym (getD-drop (args .at) l 4 0)) (length-tab 16 _) (loop .inv) (ltb-true _ _ (c .before .before .before .if1 .taken)) (omega arith) here (ne-eqb _ _ (c .if2 .left))
+    (sym (getD-drop (args .at) l 4 0)) (length-tab 16 _) (loop .inv) (ltb-true _ _ if1) (omega arith) here (ne-eqb _ _ (c .if2 .left))
 
 returns-2 : tie.Need-returns-2 Inv-loop μ-loop
 unfolding slotOf writeEntry
 returns-2 c =
-    let args = (c .before .before .before .before .before .args) in
-    let loop = (c .before .before .loop) in
+    let args = let c : tie.Start Inv-loop μ-loop = search in c .args in
+    let loop = let c : tie.At-loop Inv-loop μ-loop = search in c .loop in
     let l = args .s .now in
     let log = slotOf (args .width) (drop (args .at) l) .writes in
     ap writeFound (entry-none (λ (e : WriteEntry). eqb (e .cell) (args .cell)) noWrite log _ _ (loop .i)
@@ -99,7 +105,7 @@ returns-2 c =
 returns-3 : tie.Need-returns-3 Inv-loop μ-loop
 unfolding slotOf writeEntry
 returns-3 c =
-    let args = (c .before .before .before .before .args) in
+    let args = let c : tie.Start Inv-loop μ-loop = search in c .args in
     let loop = (c .before .loop) in
     let l = args .s .now in
     let log = slotOf (args .width) (drop (args .at) l) .writes in

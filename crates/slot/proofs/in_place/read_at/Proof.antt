@@ -28,8 +28,9 @@ read-of-requires c κs = search needs
 returns : tie.Need-returns
 unfolding slotOf
 returns c =
+    let start = let c : tie.Start = search in c in
     (c .read-of .ensures)
-    ∙ entry-from readCapacity readSize readOf (c .before .before .args .s .now) (c .before .before .args .at) (readsAt (c .before .before .args .width)) _ (omega arith) noRead (c .before .before .args .k) (c .before .before .pre .2)
+    ∙ entry-from readCapacity readSize readOf (start .args .s .now) (start .args .at) (readsAt (start .args .width)) _ (omega arith) noRead (start .args .k) (start .pre .2)
 
 pub read-at-spec : {M : Type 1} → statement M
 read-at-spec =

@@ -31,9 +31,9 @@ fields-requires c κs = search needs
 returns : tie.Need-returns
 unfolding slotOf
 returns c =
-    let l = (c .before .before .before .args .s .now) in
-    let at = (c .before .before .before .args .at) in
-    let w = (c .before .before .before .args .width) in
+    let l = let c : tie.Start = search in c .args .s .now in
+    let at = let c : tie.Start = search in c .args .at in
+    let w = let c : tie.Start = search in c .args .width in
     let writes-back : (c .before .writes-of .result) ≡ tab writeCapacity (λ i. writeOf (drop (writesAt w + writeSize * i) (drop at l))) =
     (c .before .writes-of .ensures) ∙ log-from writeCapacity writeSize writeOf l at (writesAt w) (at + 5 + 2 * w + 96) (omega arith) in
     λ i.

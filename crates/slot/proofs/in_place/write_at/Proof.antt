@@ -31,8 +31,9 @@ write-of-requires c κs = search needs
 returns : tie.Need-returns
 unfolding slotOf
 returns c =
+    let start = let c : tie.Start = search in c in
     (c .write-of .ensures)
-    ∙ entry-from writeCapacity writeSize writeOf (c .before .before .args .s .now) (c .before .before .args .at) (writesAt (c .before .before .args .width)) _ (omega arith) noWrite (c .before .before .args .k) (c .before .before .pre .2)
+    ∙ entry-from writeCapacity writeSize writeOf (start .args .s .now) (start .args .at) (writesAt (start .args .width)) _ (omega arith) noWrite (start .args .k) (start .pre .2)
 
 pub write-at-spec : {M : Type 1} → statement M
 write-at-spec =
