@@ -12,7 +12,7 @@ use Rattle.slot.specs.declared.ReadEntry.{ReadEntry}
 use Rattle.slot.specs.Fields.{withFields, withReadsOf, withWritesOf}
 use Rattle.slot.specs.Layout.{readCapacity, readSize, readBytes, readsAt, writesAt, fieldBytes, readLogBytes, writeLogBytes, slotBytes}
 use Rattle.slot.specs.Operations.{withReads}
-use Rattle.slot.proofs.Laws.Fields.{put-fields, put-entry, put-reads, put-writes}
+use Rattle.packed.proofs.PutAnew.{put-fields, put-entry, put-reads, put-writes}
 use Rattle.rules.specs.Model.{controller, cellOffset, slotOffset}
 use Rattle.rules.specs.State.{State, Slot, idle, cellCount, cellAt, slotAt, noCell, turn}
 use Rattle.rules.specs.Cells.{freed}

@@ -15,7 +15,6 @@ use crate::SLOT;
 use crate::SLOTS;
 use crate::STAMP;
 use rules::Cell;
-use slot::in_place;
 
 // At most so many cells.
 const MOST_CELLS: usize = 64;
@@ -101,7 +100,7 @@ fn put_idle(s: &mut [u8], at: usize)
 {
     let mut i = 0;
     while i < SLOTS {
-        in_place::clear(s, at + SLOT * i, STAMP);
+        packed::clear(s, at + SLOT * i, STAMP);
         i += 1;
     }
 }

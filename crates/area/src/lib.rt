@@ -21,7 +21,6 @@ use slot::ReadFound;
 use slot::SlotRecord;
 use slot::WriteEntry;
 use slot::WriteFound;
-use slot::in_place;
 
 pub mod fresh;
 pub mod stores;
@@ -115,7 +114,7 @@ pub fn fields_at(s: &[u8], i: u8) -> SlotRecord
     requires { ⌜ Good (now s) × (i < 8) ⌝ }
     ensures { λ r. ⌜ r ≡ fieldsOf (lay (slotAt (stateIn (now (s .entry))) i)) ⌝ }
 {
-    in_place::fields(s, slot_offset(s, i), STAMP)
+    packed::fields(s, slot_offset(s, i), STAMP)
 }
 
 // Slot `i` with its write log alone.
@@ -123,7 +122,7 @@ pub fn writes_at(s: &[u8], i: u8) -> SlotRecord
     requires { ⌜ Good (now s) × (i < 8) ⌝ }
     ensures { λ r. ⌜ r ≡ withoutReads (lay (slotAt (stateIn (now (s .entry))) i)) ⌝ }
 {
-    in_place::with_writes(s, slot_offset(s, i), STAMP)
+    packed::with_writes(s, slot_offset(s, i), STAMP)
 }
 
 // Read entry `k` of slot `i`.
@@ -131,7 +130,7 @@ fn read_at(s: &[u8], i: u8, k: usize) -> ReadEntry
     requires { ⌜ Good (now s) × (i < 8) × (k < readCapacity) ⌝ }
     ensures { λ r. ⌜ r ≡ getD (lay (slotAt (stateIn (now (s .entry))) i) .reads) k noRead ⌝ }
 {
-    in_place::read_at(s, slot_offset(s, i), STAMP, k)
+    packed::read_at(s, slot_offset(s, i), STAMP, k)
 }
 
 // Write entry `k` of slot `i`.
@@ -139,7 +138,7 @@ pub fn write_at(s: &[u8], i: u8, k: u8) -> WriteEntry
     requires { ⌜ Good (now s) × (i < 8) × (k < writeCapacity) ⌝ }
     ensures { λ r. ⌜ r ≡ getD (lay (slotAt (stateIn (now (s .entry))) i) .writes) k noWrite ⌝ }
 {
-    in_place::write_at(s, slot_offset(s, i), STAMP, k as usize)
+    packed::write_at(s, slot_offset(s, i), STAMP, k as usize)
 }
 
 // The read entry of a cell in slot `i`.
@@ -147,7 +146,7 @@ pub fn find_read(s: &[u8], i: u8, cell: u8) -> ReadFound
     requires { ⌜ Good (now s) × (i < 8) ⌝ }
     ensures { λ r. ⌜ r ≡ readFound (readEntry (readLog (lay (slotAt (stateIn (now (s .entry))) i))) cell) ⌝ }
 {
-    in_place::find_read(s, slot_offset(s, i), STAMP, cell)
+    packed::find_read(s, slot_offset(s, i), STAMP, cell)
 }
 
 // The write entry of a cell in slot `i`.
@@ -155,7 +154,7 @@ pub fn find_write(s: &[u8], i: u8, cell: u8) -> WriteFound
     requires { ⌜ Good (now s) × (i < 8) ⌝ }
     ensures { λ r. ⌜ r ≡ writeFound (writeEntry (writeLog (lay (slotAt (stateIn (now (s .entry))) i))) cell) ⌝ }
 {
-    in_place::find_write(s, slot_offset(s, i), STAMP, cell)
+    packed::find_write(s, slot_offset(s, i), STAMP, cell)
 }
 
 // Whether an entry of slot `i`'s read log is marked.
@@ -163,7 +162,7 @@ pub fn some_marked(s: &[u8], i: u8) -> bool
     requires { ⌜ Good (now s) × (i < 8) ⌝ }
     ensures { λ r. ⌜ r ≡ someMarked (readLog (lay (slotAt (stateIn (now (s .entry))) i))) ⌝ }
 {
-    in_place::some_marked(s, slot_offset(s, i), STAMP)
+    packed::some_marked(s, slot_offset(s, i), STAMP)
 }
 
 // What stands in the way of a reload.

@@ -21,7 +21,6 @@ use crate::COUNT;
 use crate::STAMP;
 use rules::Cell;
 use slot::SlotRecord;
-use slot::in_place;
 
 // Stores slot `i` but for its read log, which stays.
 pub fn store_writes(s: &mut [u8], i: u8, v: SlotRecord)
@@ -30,8 +29,8 @@ pub fn store_writes(s: &mut [u8], i: u8, v: SlotRecord)
     ensures { λ r. ⌜ now (s .exit) ≡ slotStored (now (s .entry)) i (withReadsOf (lay (slotAt (stateIn (now (s .entry))) i)) v) ⌝ }
 {
     let at = crate::slot_offset(s, i);
-    v.pack_fields(s, at, STAMP);
-    v.pack_writes(s, at, STAMP);
+    packed::put_fields(s, at, STAMP, v);
+    packed::put_writes(s, at, STAMP, v);
 }
 
 // Stores slot `i` but for its write log, which stays, and the clock.
@@ -41,8 +40,8 @@ pub fn store_reads_clock(s: &mut [u8], i: u8, v: SlotRecord, clock: u64)
     ensures { λ r. ⌜ now (s .exit) ≡ slotClockStored (now (s .entry)) i (withWritesOf (lay (slotAt (stateIn (now (s .entry))) i)) v) clock ⌝ }
 {
     let at = crate::slot_offset(s, i);
-    v.pack_fields(s, at, STAMP);
-    v.pack_reads(s, at, STAMP);
+    packed::put_fields(s, at, STAMP, v);
+    packed::put_reads(s, at, STAMP, v);
     wire::put(s, CLOCK, STAMP, clock);
 }
 
@@ -54,10 +53,10 @@ pub fn store_fields(s: &mut [u8], i: u8, v: SlotRecord)
 {
     let at = crate::slot_offset(s, i);
     if v.phase == 0 {
-        in_place::clear(s, at, STAMP);
+        packed::clear(s, at, STAMP);
         return;
     }
-    v.pack_fields(s, at, STAMP);
+    packed::put_fields(s, at, STAMP, v);
 }
 
 // The same, and cell `c`.
@@ -78,8 +77,8 @@ pub fn store_read(s: &mut [u8], i: u8, v: SlotRecord)
 {
     let at = crate::slot_offset(s, i);
     let last = (v.readcount - 1) as usize;
-    v.pack_fields(s, at, STAMP);
-    v.pack_read(s, at, STAMP, last);
+    packed::put_fields(s, at, STAMP, v);
+    packed::put_read(s, at, STAMP, last, v);
 }
 
 // Clears the byte at `at` if it is `holder`.
@@ -112,5 +111,5 @@ pub fn store_freed(s: &mut [u8], i: u8)
 {
     let at = crate::slot_offset(s, i);
     free_cells(s, i);
-    in_place::clear(s, at, STAMP);
+    packed::clear(s, at, STAMP);
 }

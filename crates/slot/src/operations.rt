@@ -99,7 +99,7 @@ impl SlotRecord {
     }
 
     // enter
-    pub fn entered(mut self, reads: [ReadEntry; 16], commit: u64) -> Self
+    pub fn entered(mut self, reads: [ReadEntry; SlotRecord::READS], commit: u64) -> Self
         ensures { λ r. ⌜ r ≡ entered self reads commit ⌝ }
     {
         self.phase = 3;
@@ -110,7 +110,7 @@ impl SlotRecord {
     }
 
     // reload
-    pub fn reloaded(mut self, reads: [ReadEntry; 16], commit: u64) -> Self
+    pub fn reloaded(mut self, reads: [ReadEntry; SlotRecord::READS], commit: u64) -> Self
         ensures { λ r. ⌜ r ≡ reloadedWith self reads commit ⌝ }
     {
         self.ignoring = false;

@@ -35,8 +35,8 @@ returns c =
     slot-stored (stateIn l) _ (c .before .before .before .before .before .before .before .before .before .args .i) (turnedTo v (c .before .before .before .before .before .before .before .before .before .args .v)) l _ _ (slots-read controller l) (count-read controller l) (c .before .before .before .before .before .before .before .before .before .pre .0 .1) (c .before .before .before .before .before .before .before .before .before .pre .1) (good-kept l (c .before .before .before .before .before .before .before .before .before .pre .0 .0))
     (c .before .before .before .before .before .before .slot-offset .ensures) ((c .before .before .clear .ensures) ∙ ap (λ (u : SlotRecord). splice l (c .before .before .before .before .before .before .slot-offset .result) (slotBytes 8 u)) idle)
 
-pack-fields-requires : tie.Need-pack-fields-requires
-pack-fields-requires c κs = search needs
+put-fields-requires : tie.Need-put-fields-requires
+put-fields-requires c κs = search needs
 
 same-length-2 : tie.Need-same-length-2
 same-length-2 c = search needs
@@ -49,7 +49,7 @@ returns-2 c =
     let busy : withFields v (c .before .before .before .before .before .before .before .before .before .args .v) ≡ turnedTo v (c .before .before .before .before .before .before .before .before .before .args .v) = rw (ne-eqb _ _ (c .before .before .before .before .if1 .left)) in
     slot-stored (stateIn l) _ (c .before .before .before .before .before .before .before .before .before .args .i) (turnedTo v (c .before .before .before .before .before .before .before .before .before .args .v)) l _ _ (slots-read controller l) (count-read controller l) (c .before .before .before .before .before .before .before .before .before .pre .0 .1) (c .before .before .before .before .before .before .before .before .before .pre .1) (good-kept l (c .before .before .before .before .before .before .before .before .before .pre .0 .0))
     (c .before .before .before .before .before .before .slot-offset .ensures)
-    (fields-put (stateIn l) _ (c .before .before .before .before .before .before .before .before .before .args .i) l _ (slots-read controller l) (count-read controller l) (c .before .before .before .before .before .before .before .before .before .pre .0 .1) (good-kept l (c .before .before .before .before .before .before .before .before .before .pre .0 .0)) (c .before .before .before .before .before .before .slot-offset .ensures) (omega arith) (c .before .before .before .before .before .before .before .before .before .args .v) _ (c .before .before .pack-fields .ensures)
+    (fields-put (stateIn l) _ (c .before .before .before .before .before .before .before .before .before .args .i) l _ (slots-read controller l) (count-read controller l) (c .before .before .before .before .before .before .before .before .before .pre .0 .1) (good-kept l (c .before .before .before .before .before .before .before .before .before .pre .0 .0)) (c .before .before .before .before .before .before .slot-offset .ensures) (omega arith) (c .before .before .before .before .before .before .before .before .before .args .v) _ (c .before .before .put-fields .ensures)
     ∙ ap (λ (u : SlotRecord). splice l (c .before .before .before .before .before .before .slot-offset .result) (slotBytes 8 u)) busy)
 
 pub store-fields-spec : {M : Type 1} → statement M
@@ -60,6 +60,6 @@ store-fields-spec =
     clear-requires
     same-length
     returns
-    pack-fields-requires
+    put-fields-requires
     same-length-2
     returns-2)

@@ -23,11 +23,11 @@ sub-last c = search needs
 cast-last : tie.Need-cast-last
 cast-last c = search needs
 
-pack-fields-requires : tie.Need-pack-fields-requires
-pack-fields-requires c κs = search needs
+put-fields-requires : tie.Need-put-fields-requires
+put-fields-requires c κs = search needs
 
-pack-read-requires : tie.Need-pack-read-requires
-pack-read-requires c κs = search needs
+put-read-requires : tie.Need-put-read-requires
+put-read-requires c κs = search needs
 
 same-length : tie.Need-same-length
 same-length c = search needs
@@ -39,7 +39,7 @@ returns c =
     let v = lay (slotAt (stateIn l) i) in
     slot-stored (stateIn l) _ i (withLast v (c .before .before .before .before .before .before .before .before .before .before .before .before .args .v)) l _ _ (slots-read controller l) (count-read controller l) (c .before .before .before .before .before .before .before .before .before .before .before .before .pre .0 .1) (c .before .before .before .before .before .before .before .before .before .before .before .before .pre .1) (good-kept l (c .before .before .before .before .before .before .before .before .before .before .before .before .pre .0 .0)) (c .before .before .before .before .before .before .before .before .before .slot-offset .ensures)
     (entry-put (stateIn l) _ i l _ (slots-read controller l) (count-read controller l) (c .before .before .before .before .before .before .before .before .before .before .before .before .pre .0 .1) (good-kept l (c .before .before .before .before .before .before .before .before .before .before .before .before .pre .0 .0)) (c .before .before .before .before .before .before .before .before .before .slot-offset .ensures) (omega arith)
-    (c .before .before .before .before .before .before .before .before .before .before .before .before .args .v) _ _ _ _ (c .before .before .before .before .before .before .pack-fields .ensures) (c .before .before .pack-read .ensures) (omega arith) (logged-of l (c .before .before .before .before .before .before .before .before .before .before .before .before .pre .0 .0) i (c .before .before .before .before .before .before .before .before .before .before .before .before .pre .0 .1) v refl .whole))
+    (c .before .before .before .before .before .before .before .before .before .before .before .before .args .v) _ _ _ _ (c .before .before .before .before .before .before .put-fields .ensures) (c .before .before .put-read .ensures) (omega arith) (logged-of l (c .before .before .before .before .before .before .before .before .before .before .before .before .pre .0 .0) i (c .before .before .before .before .before .before .before .before .before .before .before .before .pre .0 .1) v refl .whole))
 
 pub store-read-spec : {M : Type 1} → statement M
 store-read-spec =
@@ -48,7 +48,7 @@ store-read-spec =
     slot-offset-requires
     sub-last
     cast-last
-    pack-fields-requires
-    pack-read-requires
+    put-fields-requires
+    put-read-requires
     same-length
     returns)

@@ -21,11 +21,11 @@ use Rattle.area.proofs.stores.store_reads_clock.Tie as tie
 slot-offset-requires : tie.Need-slot-offset-requires
 slot-offset-requires c κs = search needs
 
-pack-fields-requires : tie.Need-pack-fields-requires
-pack-fields-requires c κs = search needs
+put-fields-requires : tie.Need-put-fields-requires
+put-fields-requires c κs = search needs
 
-pack-reads-requires : tie.Need-pack-reads-requires
-pack-reads-requires c κs = search needs
+put-reads-requires : tie.Need-put-reads-requires
+put-reads-requires c κs = search needs
 
 put-requires : tie.Need-put-requires
 put-requires c κs = search needs
@@ -42,7 +42,7 @@ returns c =
     let slot =
     slot-stored (stateIn l) _ i (withWritesOf v (c .before .before .before .before .before .before .before .before .before .before .before .before .before .before .before .args .v)) l _ _ (slots-read controller l) (count-read controller l) (c .before .before .before .before .before .before .before .before .before .before .before .before .before .before .before .pre .0 .1) (c .before .before .before .before .before .before .before .before .before .before .before .before .before .before .before .pre .1) (good-kept l good) (c .before .before .before .before .before .before .before .before .before .before .before .before .slot-offset .ensures)
     (reads-put (stateIn l) _ i l _ (slots-read controller l) (count-read controller l) (c .before .before .before .before .before .before .before .before .before .before .before .before .before .before .before .pre .0 .1) (good-kept l good) (c .before .before .before .before .before .before .before .before .before .before .before .before .slot-offset .ensures) (omega arith)
-    (c .before .before .before .before .before .before .before .before .before .before .before .before .before .before .before .args .v) _ _ (c .before .before .before .before .before .before .before .before .before .before .pack-fields .ensures) (c .before .before .before .before .before .before .pack-reads .ensures)) in
+    (c .before .before .before .before .before .before .before .before .before .before .before .before .before .before .before .args .v) _ _ (c .before .before .before .before .before .before .before .before .before .before .put-fields .ensures) (c .before .before .before .before .before .before .put-reads .ensures)) in
     (c .before .before .put .ensures)
     ∙ ap (λ (k : List ℕ). splice k 6 (toBe 8 (c .before .before .before .before .before .before .before .before .before .before .before .before .before .before .before .args .clock))) slot
     ∙ pack-clock controller (turn (stateIn l) i (stateIn l .clock) (stateIn l .cells) (view (withWritesOf v (c .before .before .before .before .before .before .before .before .before .before .before .before .before .before .before .args .v)))) (c .before .before .before .before .before .before .before .before .before .before .before .before .before .before .before .args .clock)
@@ -52,8 +52,8 @@ store-reads-clock-spec =
     tie.close
     (tie.spec
     slot-offset-requires
-    pack-fields-requires
-    pack-reads-requires
+    put-fields-requires
+    put-reads-requires
     put-requires
     same-length
     returns)

@@ -15,11 +15,11 @@ use Rattle.area.proofs.stores.store_writes.Tie as tie
 slot-offset-requires : tie.Need-slot-offset-requires
 slot-offset-requires c κs = search needs
 
-pack-fields-requires : tie.Need-pack-fields-requires
-pack-fields-requires c κs = search needs
+put-fields-requires : tie.Need-put-fields-requires
+put-fields-requires c κs = search needs
 
-pack-writes-requires : tie.Need-pack-writes-requires
-pack-writes-requires c κs = search needs
+put-writes-requires : tie.Need-put-writes-requires
+put-writes-requires c κs = search needs
 
 same-length : tie.Need-same-length
 same-length c = search needs
@@ -32,9 +32,9 @@ returns c =
     let v = lay (slotAt (stateIn l) i) in
     slot-stored (stateIn l) _ i (withReadsOf v (c .before .before .before .before .before .before .before .before .before .before .before .args .v)) l _ _ (slots-read controller l) (count-read controller l) (c .before .before .before .before .before .before .before .before .before .before .before .pre .0 .1) (c .before .before .before .before .before .before .before .before .before .before .before .pre .1) (good-kept l good) (c .before .before .before .before .before .before .before .before .slot-offset .ensures)
     (writes-put (stateIn l) _ i l _ (slots-read controller l) (count-read controller l) (c .before .before .before .before .before .before .before .before .before .before .before .pre .0 .1) (good-kept l good) (c .before .before .before .before .before .before .before .before .slot-offset .ensures) (omega arith)
-    (c .before .before .before .before .before .before .before .before .before .before .before .args .v) _ _ (c .before .before .before .before .before .before .pack-fields .ensures) (c .before .before .pack-writes .ensures))
+    (c .before .before .before .before .before .before .before .before .before .before .before .args .v) _ _ (c .before .before .before .before .before .before .put-fields .ensures) (c .before .before .put-writes .ensures))
 
 pub store-writes-spec : {M : Type 1} → statement M
 store-writes-spec =
     tie.close
-    (tie.spec slot-offset-requires pack-fields-requires pack-writes-requires same-length returns)
+    (tie.spec slot-offset-requires put-fields-requires put-writes-requires same-length returns)
