@@ -34,17 +34,22 @@ add-put-2 : tie.Need-add-put-2
 add-put-2 c = search needs
 
 put-requires-2 : tie.Need-put-requires-2
-put-requires-2 c κs = omega (arith, simp length-set at (c .before .before .before .put .kept .0))
+put-requires-2 c κs =
+    let put = let c : tie.After-put = search in c .put .kept in
+    omega (arith, simp length-set at (put .0))
 
 same-length : tie.Need-same-length
-same-length c = c .before .before .put2 .kept .0 ∙ c .before .before .before .before .before .before .put .kept .0 ∙ simp length-set
+same-length c =
+    let put = let c : tie.After-put = search in c .put .kept in
+    let put2 = let c : tie.After-put2 = search in c .put2 .kept in
+    put2 .0 ∙ put .0 ∙ simp length-set
 
 returns : tie.Need-returns
 unfolding cellBytes
 returns c =
-    let args = c .before .before .before .before .before .before .before .before .before .before .args in
-    let put = c .before .before .before .before .before .before .put in
-    let put2 = c .before .before .put2 in
+    let args = let c : tie.Start = search in c .args in
+    let put = let c : tie.After-put = search in c .put in
+    let put2 = let c : tie.After-put2 = search in c .put2 in
     let a = args .s .now in
     let at = args .at in
     let x = args .x in

@@ -30,10 +30,12 @@ legal-requires c κs = tt
 
 returns : tie.Need-returns Inv-loop μ-loop
 returns c =
-    let args = c .before .before .before .before .before .before .args in
-    let loop = c .before .before .before .before .loop in
+    let described = let c : tie.After-described Inv-loop μ-loop = search in c .described .ensures in
+    let legal = let c : tie.After-legal Inv-loop μ-loop = search in c .legal .ensures in
+    let args = let c : tie.Start Inv-loop μ-loop = search in c .args in
+    let loop = let c : tie.At-loop Inv-loop μ-loop = search in c .loop in
     let ds = args .ds .now in
-    let test = ap legalCell (sym (c .before .before .described .ensures ∙ sym (described-at ds (loop .k) (omega arith)))) ∙ sym (c .before .legal .ensures) ∙ not-true _ (c .if1 .taken) in
+    let test = ap legalCell (sym (described ∙ sym (described-at ds (loop .k) (omega arith)))) ∙ sym legal ∙ not-true _ (c .if1 .taken) in
     sym (loop .inv .1 ∙ all-failed legalCell noCell (describedCells ds) (loop .k) (rw (described-length ds) (omega arith)) test)
 
 add-k : tie.Need-add-k Inv-loop μ-loop
@@ -44,15 +46,17 @@ loop-less c = omega arith
 
 loop-again : tie.Need-loop-again Inv-loop μ-loop
 loop-again c =
-    let args = c .before .before .before .before .before .before .args in
-    let loop = c .before .before .before .before .loop in
+    let described = let c : tie.After-described Inv-loop μ-loop = search in c .described .ensures in
+    let legal = let c : tie.After-legal Inv-loop μ-loop = search in c .legal .ensures in
+    let args = let c : tie.Start Inv-loop μ-loop = search in c .args in
+    let loop = let c : tie.At-loop Inv-loop μ-loop = search in c .loop in
     let ds = args .ds .now in
-    let test = ap legalCell (sym (c .before .before .described .ensures ∙ sym (described-at ds (loop .k) (omega arith)))) ∙ sym (c .before .legal .ensures) ∙ not-false _ (c .if1 .left) in
+    let test = ap legalCell (sym (described ∙ sym (described-at ds (loop .k) (omega arith)))) ∙ sym legal ∙ not-false _ (c .if1 .left) in
     (omega arith, loop .inv .1 ∙ all-passed legalCell noCell (describedCells ds) (loop .k) (rw (described-length ds) (omega arith)) test)
 
 returns-2 : tie.Need-returns-2 Inv-loop μ-loop
 returns-2 c =
-    let ds = c .before .before .before .args .ds .now in
+    let ds = let c : tie.Start Inv-loop μ-loop = search in c .args .ds .now in
     sym (c .before .loop .inv .1 ∙ all-tested legalCell noCell (describedCells ds) (c .before .loop .k) (rw (described-length ds) (omega arith)))
 
 pub all-legal-spec : {M : Type 1} → statement M

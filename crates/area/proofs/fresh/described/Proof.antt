@@ -25,7 +25,7 @@ word-at-requires c κs = search needs
 returns : tie.Need-returns
 unfolding describedCell
 returns c =
-    let args = c .before .before .before .args in
+    let args = let c : tie.Start = search in c .args in
     let l = args .ds .now in
     let word : c .word-at .result ≡ be 4 (drop 1 (drop (5 * args .k) l)) = c .word-at .ensures ∙ ap (be 4) (sym (drop-drop 1 (5 * args .k) l)) in
     λ i. record { kind = first-byte l (5 * args .k) i; holder = 0; word = word i; stamp = 0 }

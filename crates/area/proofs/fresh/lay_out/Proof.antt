@@ -22,11 +22,17 @@ same-length-2 : tie.Need-same-length-2
 same-length-2 c = search needs
 
 returns-2 : tie.Need-returns-2
-returns-2 c = wrong-value _ _ (sym (c .before .before .before .lengths-fit .ensures) ∙ not-false _ (c .before .before .if1 .left)) (sym (c .before .all-legal .ensures) ∙ not-true _ (c .if2 .taken))
+returns-2 c =
+    let lengths-fit = let c : tie.After-lengths-fit = search in c .lengths-fit .ensures in
+    let if1 = let c : tie.Else1 = search in c .if1 .left in
+    let all-legal = let c : tie.After-all-legal = search in c .all-legal .ensures in
+    wrong-value _ _ (sym lengths-fit ∙ not-false _ if1) (sym all-legal ∙ not-true _ (c .if2 .taken))
 
 put-fresh-requires : tie.Need-put-fresh-requires
 put-fresh-requires c κs =
-    let lengths = lengths-of _ _ (sym (c .before .before .before .before .lengths-fit .ensures) ∙ not-false _ (c .before .before .before .if1 .left)) in
+    let lengths-fit = let c : tie.After-lengths-fit = search in c .lengths-fit .ensures in
+    let if1 = let c : tie.Else1 = search in c .if1 .left in
+    let lengths = lengths-of _ _ (sym lengths-fit ∙ not-false _ if1) in
     (refl, lengths .many, lengths .long)
 
 same-length-3 : tie.Need-same-length-3
@@ -34,7 +40,12 @@ same-length-3 c = search needs
 
 returns-3 : tie.Need-returns-3
 returns-3 c =
-    all-right _ _ _ (sym (c .before .before .before .before .before .before .before .lengths-fit .ensures) ∙ not-false _ (c .before .before .before .before .before .before .if1 .left)) (sym (c .before .before .before .before .before .all-legal .ensures) ∙ not-false _ (c .before .before .before .before .if2 .left)) (c .before .before .put-fresh .ensures)
+    let lengths-fit = let c : tie.After-lengths-fit = search in c .lengths-fit .ensures in
+    let if1 = let c : tie.Else1 = search in c .if1 .left in
+    let all-legal = let c : tie.After-all-legal = search in c .all-legal .ensures in
+    let if2 = let c : tie.Else2 = search in c .if2 .left in
+    let put-fresh = let c : tie.After-put-fresh = search in c .put-fresh .ensures in
+    all-right _ _ _ (sym lengths-fit ∙ not-false _ if1) (sym all-legal ∙ not-false _ if2) put-fresh
 
 pub lay-out-spec : {M : Type 1} → statement M
 lay-out-spec =

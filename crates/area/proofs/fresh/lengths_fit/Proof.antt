@@ -20,7 +20,10 @@ returns-2 c = simp (eq-eqb _ _ (c .before .if1 .left), lt-leb _ _ (c .if2 .taken
 
 returns-3 : tie.Need-returns-3
 unfolding lengthsFit cellCountRight _and_
-returns-3 c = simp (eq-eqb _ _ (c .before .before .if1 .left), le-leb _ _ (c .before .if2 .left), lt-leb _ _ (c .if3 .taken))
+returns-3 c =
+    let if1 = let c : tie.Else1 = search in c .if1 .left in
+    let if2 = let c : tie.Else2 = search in c .if2 .left in
+    simp (eq-eqb _ _ (if1), le-leb _ _ (if2), lt-leb _ _ (c .if3 .taken))
 
 mul-result : tie.Need-mul-result
 mul-result c = search needs
@@ -36,7 +39,10 @@ add-result-2 c = search needs
 
 returns-4 : tie.Need-returns-4
 unfolding lengthsFit cellCountRight _and_
-returns-4 c = simp (eq-eqb _ _ (c .before .before .if1 .left), le-leb _ _ (c .before .if2 .left), le-leb _ _ (c .if3 .left))
+returns-4 c =
+    let if1 = let c : tie.Else1 = search in c .if1 .left in
+    let if2 = let c : tie.Else2 = search in c .if2 .left in
+    simp (eq-eqb _ _ (if1), le-leb _ _ (if2), le-leb _ _ (c .if3 .left))
 
 pub lengths-fit-spec : {M : Type 1} → statement M
 lengths-fit-spec =

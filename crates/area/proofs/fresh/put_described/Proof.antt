@@ -23,7 +23,9 @@ abbrev μ-loop : tie.MeasureT-loop
 
 loop-holds : tie.Need-loop-holds Inv-loop μ-loop
 unfolding cat
-loop-holds c = (omega arith, refl, sym (splice-nil (c .before .before .args .s .now) 14))
+loop-holds c =
+    let start = let c : tie.Start Inv-loop μ-loop = search in c in
+    (omega arith, refl, sym (splice-nil (start .args .s .now) 14))
 
 mul-put-cell : tie.Need-mul-put-cell Inv-loop μ-loop
 mul-put-cell c = omega arith
@@ -45,14 +47,15 @@ loop-less c = omega arith
 
 loop-again : tie.Need-loop-again Inv-loop μ-loop
 loop-again c =
-    let args = c .before .before .before .before .before .before .before .before .before .args in
-    let loop = c .before .before .before .before .before .before .loop in
-    let put-cell = c .before .before .put-cell in
+    let described = let c : tie.After-described Inv-loop μ-loop = search in c .described .ensures in
+    let args = let c : tie.Start Inv-loop μ-loop = search in c .args in
+    let loop = let c : tie.At-loop Inv-loop μ-loop = search in c .loop in
+    let put-cell = let c : tie.After-put-cell Inv-loop μ-loop = search in c .put-cell in
     let part : ℕ → List ℕ = λ j. cellBytes 8 (describedCell (drop (5 * j) (args .ds .now))) in (
       omega arith,
       put-cell .kept .0 ∙ loop .inv .1,
       splice-part 14 part (λ j. length-cellBytes 8 (describedCell (drop (5 * j) (args .ds .now)))) (args .s .now) 14 (loop .c) (loop .s) (put-cell .last .0) (omega arith) (loop .inv .2)
-          (put-cell .ensures ∙ ap (λ (x : Cell). splice (loop .s) (14 + 14 * loop .c) (cellBytes 8 x)) (c .before .before .before .described .ensures)),
+          (put-cell .ensures ∙ ap (λ (x : Cell). splice (loop .s) (14 + 14 * loop .c) (cellBytes 8 x)) described),
     )
 
 same-length : tie.Need-same-length Inv-loop μ-loop
@@ -60,8 +63,11 @@ same-length c = omega arith
 
 returns : tie.Need-returns Inv-loop μ-loop
 returns c =
-    let all : c .before .loop .c ≡ c .before .before .before .before .args .n = omega arith in
-    rw all at (c .before .loop .inv .2)
+    let start = let c : tie.Start Inv-loop μ-loop = search in c in
+    let loop-c = let c : tie.At-loop Inv-loop μ-loop = search in c .loop .c in
+    let loop-inv = let c : tie.At-loop Inv-loop μ-loop = search in c .loop .inv in
+    let all : loop-c ≡ start .args .n = omega arith in
+    rw all at (loop-inv .2)
 
 pub put-described-spec : {M : Type 1} → statement M
 put-described-spec =

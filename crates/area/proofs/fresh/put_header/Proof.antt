@@ -31,19 +31,26 @@ put-requires : tie.Need-put-requires
 put-requires c κs = simp length-set (omega arith)
 
 slice-write-s-2 : tie.Need-slice-write-s-2
-slice-write-s-2 c = omega (arith, simp length-set at (c .before .before .put .kept .0))
+slice-write-s-2 c =
+    let put = let c : tie.After-put = search in c .put .kept in
+    omega (arith, simp length-set at (put .0))
 
 put-requires-2 : tie.Need-put-requires-2
-put-requires-2 c κs = simp length-set (omega (arith, simp length-set at (c .before .before .before .put .kept .0)))
+put-requires-2 c κs =
+    let put = let c : tie.After-put = search in c .put .kept in
+    simp length-set (omega (arith, simp length-set at (put .0)))
 
 same-length : tie.Need-same-length
-same-length c = omega (arith, simp length-set at (c .before .before .put2 .kept .0), simp length-set at (c .before .before .before .before .before .before .put .kept .0))
+same-length c =
+    let put = let c : tie.After-put = search in c .put .kept in
+    let put2 = let c : tie.After-put2 = search in c .put2 .kept in
+    omega (arith, simp length-set at (put2 .0), simp length-set at (put .0))
 
 returns : tie.Need-returns
 returns c =
-    let args = c .before .before .before .before .before .before .before .before .before .args in
-    let put = c .before .before .before .before .before .before .put in
-    let put2 = c .before .before .put2 in
+    let args = let c : tie.Start = search in c .args in
+    let put = let c : tie.After-put = search in c .put in
+    let put2 = let c : tie.After-put2 = search in c .put2 in
     let a = args .s .now in
     let n = args .n in
     let length-field = toBe 4 (14 + 14 * n + 197 * 8) in

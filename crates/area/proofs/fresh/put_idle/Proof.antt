@@ -37,11 +37,18 @@ loop-less : tie.Need-loop-less Inv-loop μ-loop
 loop-less c = omega arith
 
 loop-again : tie.Need-loop-again Inv-loop μ-loop
-loop-again c = (
-  omega arith,
-  (c .before .before .clear .kept .0) ∙ (c .before .before .before .before .before .loop .inv .1),
-  splice-part 197 (λ j. slotBytes 8 empty) (λ j. length-slotBytes 8 empty) (c .before .before .before .before .before .before .before .args .s .now) (c .before .before .before .before .before .before .before .args .at) (c .before .before .before .before .before .loop .i) (c .before .before .before .before .before .loop .s) (c .before .before .clear .last .0) (omega arith) (c .before .before .before .before .before .loop .inv .2) (c .before .before .clear .ensures),
-)
+loop-again c =
+    let start = let c : tie.Start Inv-loop μ-loop = search in c in
+    let loop-inv = let c : tie.At-loop Inv-loop μ-loop = search in c .loop .inv in
+    let loop-i = let c : tie.At-loop Inv-loop μ-loop = search in c .loop .i in
+    let loop-s = let c : tie.At-loop Inv-loop μ-loop = search in c .loop .s in
+    let clear-kept = let c : tie.After-clear Inv-loop μ-loop = search in c .clear .kept in
+    let clear-last = let c : tie.After-clear Inv-loop μ-loop = search in c .clear .last in
+    let clear-ensures = let c : tie.After-clear Inv-loop μ-loop = search in c .clear .ensures in (
+      omega arith,
+      (clear-kept .0) ∙ (loop-inv .1),
+      splice-part 197 (λ j. slotBytes 8 empty) (λ j. length-slotBytes 8 empty) (start .args .s .now) (start .args .at) loop-i loop-s (clear-last .0) (omega arith) (loop-inv .2) (clear-ensures),
+    )
 
 same-length : tie.Need-same-length Inv-loop μ-loop
 same-length c = omega arith

@@ -34,7 +34,7 @@ slice-read-n c = omega arith
 
 loop-holds : tie.Need-loop-holds Inv-loop μ-loop
 loop-holds c =
-    let start = c .before .before in
+    let start = let c : tie.Start Inv-loop μ-loop = search in c in
     (omega arith, refl, good-kept (start .args .s .now) (start .pre .0))
 
 cell-offset-requires : tie.Need-cell-offset-requires Inv-loop μ-loop
@@ -65,13 +65,14 @@ free-next S i c h =
 
 loop-again : tie.Need-loop-again Inv-loop μ-loop
 loop-again c =
-    let start = c .before .before .before .before .before .before .before .before .before in
-    let loop = c .before .before .before .before .before .before .loop in
-    let clear = c .before .before .clear in
+    let cell-offset = let c : tie.After-cell-offset Inv-loop μ-loop = search in c .cell-offset .ensures in
+    let start = let c : tie.Start Inv-loop μ-loop = search in c in
+    let loop = let c : tie.At-loop Inv-loop μ-loop = search in c .loop in
+    let clear = let c : tie.After-clear Inv-loop μ-loop = search in c .clear in
     let l = start .args .s .now in (
       omega arith,
       clear .kept .0 ∙ loop .inv .1,
-      clear .ensures ∙ (λ j. cleared (loop .inv .2 j) (c .before .before .before .cell-offset .ensures j + 1) (start .args .i + 1))
+      clear .ensures ∙ (λ j. cleared (loop .inv .2 j) (cell-offset j + 1) (start .args .i + 1))
           ∙ free-next (stateIn l) (start .args .i) (loop .c) (rw (count-read controller l) (omega arith)),
     )
 
@@ -81,7 +82,7 @@ same-length c = omega arith
 returns : tie.Need-returns Inv-loop μ-loop
 unfolding freeAll
 returns c =
-    let start = c .before .before .before .before in
+    let start = let c : tie.Start Inv-loop μ-loop = search in c in
     let S = stateIn (start .args .s .now) in
     c .before .loop .inv .2
     ∙ ap (λ (cells : List Cell). pack controller (record { clock = S .clock; cells = cells; slots = S .slots }))

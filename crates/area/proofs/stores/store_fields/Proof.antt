@@ -29,11 +29,16 @@ same-length c = search needs
 returns : tie.Need-returns
 unfolding turnedTo
 returns c =
-    let l = (c .before .before .before .before .before .before .before .before .before .args .s .now) in
-    let v = lay (slotAt (stateIn l) (c .before .before .before .before .before .before .before .before .before .args .i)) in
-    let idle : empty ≡ turnedTo v (c .before .before .before .before .before .before .before .before .before .args .v) = rw (eq-eqb _ _ (c .before .before .before .before .if1 .taken)) in
-    slot-stored (stateIn l) _ (c .before .before .before .before .before .before .before .before .before .args .i) (turnedTo v (c .before .before .before .before .before .before .before .before .before .args .v)) l _ _ (slots-read controller l) (count-read controller l) (c .before .before .before .before .before .before .before .before .before .pre .0 .1) (c .before .before .before .before .before .before .before .before .before .pre .1) (good-kept l (c .before .before .before .before .before .before .before .before .before .pre .0 .0))
-    (c .before .before .before .before .before .before .slot-offset .ensures) ((c .before .before .clear .ensures) ∙ ap (λ (u : SlotRecord). splice l (c .before .before .before .before .before .before .slot-offset .result) (slotBytes 8 u)) idle)
+    let start = let c : tie.Start = search in c in
+    let slot-offset-ensures = let c : tie.After-slot-offset = search in c .slot-offset .ensures in
+    let slot-offset-result = let c : tie.After-slot-offset = search in c .slot-offset .result in
+    let if1 = let c : tie.Then1 = search in c .if1 .taken in
+    let clear = let c : tie.After-clear = search in c .clear .ensures in
+    let l = let c : tie.Start = search in c .args .s .now in
+    let v = lay (slotAt (stateIn l) (start .args .i)) in
+    let idle : empty ≡ turnedTo v (start .args .v) = rw (eq-eqb _ _ if1) in
+    slot-stored (stateIn l) _ (start .args .i) (turnedTo v (start .args .v)) l _ _ (slots-read controller l) (count-read controller l) (start .pre .0 .1) (start .pre .1) (good-kept l (start .pre .0 .0))
+    slot-offset-ensures (clear ∙ ap (λ (u : SlotRecord). splice l slot-offset-result (slotBytes 8 u)) idle)
 
 pack-fields-requires : tie.Need-pack-fields-requires
 pack-fields-requires c κs = search needs
@@ -44,13 +49,18 @@ same-length-2 c = search needs
 returns-2 : tie.Need-returns-2
 unfolding turnedTo
 returns-2 c =
-    let l = (c .before .before .before .before .before .before .before .before .before .args .s .now) in
-    let v = lay (slotAt (stateIn l) (c .before .before .before .before .before .before .before .before .before .args .i)) in
-    let busy : withFields v (c .before .before .before .before .before .before .before .before .before .args .v) ≡ turnedTo v (c .before .before .before .before .before .before .before .before .before .args .v) = rw (ne-eqb _ _ (c .before .before .before .before .if1 .left)) in
-    slot-stored (stateIn l) _ (c .before .before .before .before .before .before .before .before .before .args .i) (turnedTo v (c .before .before .before .before .before .before .before .before .before .args .v)) l _ _ (slots-read controller l) (count-read controller l) (c .before .before .before .before .before .before .before .before .before .pre .0 .1) (c .before .before .before .before .before .before .before .before .before .pre .1) (good-kept l (c .before .before .before .before .before .before .before .before .before .pre .0 .0))
-    (c .before .before .before .before .before .before .slot-offset .ensures)
-    (fields-put (stateIn l) _ (c .before .before .before .before .before .before .before .before .before .args .i) l _ (slots-read controller l) (count-read controller l) (c .before .before .before .before .before .before .before .before .before .pre .0 .1) (good-kept l (c .before .before .before .before .before .before .before .before .before .pre .0 .0)) (c .before .before .before .before .before .before .slot-offset .ensures) (omega arith) (c .before .before .before .before .before .before .before .before .before .args .v) _ (c .before .before .pack-fields .ensures)
-    ∙ ap (λ (u : SlotRecord). splice l (c .before .before .before .before .before .before .slot-offset .result) (slotBytes 8 u)) busy)
+    let start = let c : tie.Start = search in c in
+    let slot-offset-ensures = let c : tie.After-slot-offset = search in c .slot-offset .ensures in
+    let slot-offset-result = let c : tie.After-slot-offset = search in c .slot-offset .result in
+    let if1 = let c : tie.Else1 = search in c .if1 .left in
+    let pack-fields = let c : tie.After-pack-fields = search in c .pack-fields .ensures in
+    let l = let c : tie.Start = search in c .args .s .now in
+    let v = lay (slotAt (stateIn l) (start .args .i)) in
+    let busy : withFields v (start .args .v) ≡ turnedTo v (start .args .v) = rw (ne-eqb _ _ if1) in
+    slot-stored (stateIn l) _ (start .args .i) (turnedTo v (start .args .v)) l _ _ (slots-read controller l) (count-read controller l) (start .pre .0 .1) (start .pre .1) (good-kept l (start .pre .0 .0))
+    slot-offset-ensures
+    (fields-put (stateIn l) _ (start .args .i) l _ (slots-read controller l) (count-read controller l) (start .pre .0 .1) (good-kept l (start .pre .0 .0)) slot-offset-ensures (omega arith) (start .args .v) _ pack-fields
+    ∙ ap (λ (u : SlotRecord). splice l slot-offset-result (slotBytes 8 u)) busy)
 
 pub store-fields-spec : {M : Type 1} → statement M
 store-fields-spec =

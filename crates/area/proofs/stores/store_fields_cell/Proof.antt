@@ -26,12 +26,16 @@ same-length c = search needs
 
 returns : tie.Need-returns
 returns c =
-    let l = (c .before .before .before .before .before .before .before .before .before .before .args .s .now) in
+    let start = let c : tie.Start = search in c in
+    let store-fields = let c : tie.After-store-fields = search in c .store-fields .ensures in
+    let cell-offset = let c : tie.After-cell-offset = search in c .cell-offset .ensures in
+    let put-cell = let c : tie.After-put-cell = search in c .put-cell .ensures in
+    let l = let c : tie.Start = search in c .args .s .now in
     let S = stateIn l in
-    let v = turnedTo (lay (slotAt S (c .before .before .before .before .before .before .before .before .before .before .args .i))) (c .before .before .before .before .before .before .before .before .before .before .args .v) in
-    (c .before .before .put-cell .ensures)
-    ∙ (λ j. splice ((c .before .before .before .before .before .before .before .store-fields .ensures) j) ((c .before .before .before .cell-offset .ensures) j) (cellBytes 8 (c .before .before .before .before .before .before .before .before .before .before .args .x)))
-    ∙ pack-cell controller (turn S (c .before .before .before .before .before .before .before .before .before .before .args .i) (S .clock) (S .cells) (view v)) (c .before .before .before .before .before .before .before .before .before .before .args .c) (c .before .before .before .before .before .before .before .before .before .before .args .x) (rw (count-read controller l) (c .before .before .before .before .before .before .before .before .before .before .pre .0 .2))
+    let v = turnedTo (lay (slotAt S (start .args .i))) (start .args .v) in
+    put-cell
+    ∙ (λ j. splice (store-fields j) (cell-offset j) (cellBytes 8 (start .args .x)))
+    ∙ pack-cell controller (turn S (start .args .i) (S .clock) (S .cells) (view v)) (start .args .c) (start .args .x) (rw (count-read controller l) (start .pre .0 .2))
 
 pub store-fields-cell-spec : {M : Type 1} → statement M
 store-fields-cell-spec =

@@ -30,10 +30,16 @@ same-length c = search needs
 returns : tie.Need-returns
 unfolding freeAll
 returns c =
-    let l = (c .before .before .before .before .before .before .before .before .before .before .before .args .s .now) in
-    let i = (c .before .before .before .before .before .before .before .before .before .before .before .args .i) in
-    slot-stored (freedCells i (stateIn l)) _ i empty (c .before .before .before .before .before .before .free-cells .last .0) (c .before .before .clear .last .0) _ (slots-read controller l)
-    (length-map (stateIn l .cells) _ ∙ count-read controller l) (c .before .before .before .before .before .before .before .before .before .before .before .pre .1) (ap lay (view-lay idle)) (c .before .before .before .before .before .before .free-cells .ensures) (c .before .before .before .before .before .before .before .before .slot-offset .ensures) (c .before .before .clear .ensures)
+    let start = let c : tie.Start = search in c in
+    let slot-offset = let c : tie.After-slot-offset = search in c .slot-offset .ensures in
+    let free-cells-last = let c : tie.After-free-cells = search in c .free-cells .last in
+    let free-cells-ensures = let c : tie.After-free-cells = search in c .free-cells .ensures in
+    let clear-last = let c : tie.After-clear = search in c .clear .last in
+    let clear-ensures = let c : tie.After-clear = search in c .clear .ensures in
+    let l = let c : tie.Start = search in c .args .s .now in
+    let i = let c : tie.Start = search in c .args .i in
+    slot-stored (freedCells i (stateIn l)) _ i empty (free-cells-last .0) (clear-last .0) _ (slots-read controller l)
+    (length-map (stateIn l .cells) _ ∙ count-read controller l) (start .pre .1) (ap lay (view-lay idle)) free-cells-ensures slot-offset clear-ensures
 
 pub store-freed-spec : {M : Type 1} → statement M
 store-freed-spec =

@@ -34,12 +34,16 @@ same-length c = search needs
 
 returns : tie.Need-returns
 returns c =
-    let l = (c .before .before .before .before .before .before .before .before .before .before .before .before .args .s .now) in
-    let i = (c .before .before .before .before .before .before .before .before .before .before .before .before .args .i) in
+    let start = let c : tie.Start = search in c in
+    let slot-offset = let c : tie.After-slot-offset = search in c .slot-offset .ensures in
+    let pack-fields = let c : tie.After-pack-fields = search in c .pack-fields .ensures in
+    let pack-read = let c : tie.After-pack-read = search in c .pack-read .ensures in
+    let l = let c : tie.Start = search in c .args .s .now in
+    let i = let c : tie.Start = search in c .args .i in
     let v = lay (slotAt (stateIn l) i) in
-    slot-stored (stateIn l) _ i (withLast v (c .before .before .before .before .before .before .before .before .before .before .before .before .args .v)) l _ _ (slots-read controller l) (count-read controller l) (c .before .before .before .before .before .before .before .before .before .before .before .before .pre .0 .1) (c .before .before .before .before .before .before .before .before .before .before .before .before .pre .1) (good-kept l (c .before .before .before .before .before .before .before .before .before .before .before .before .pre .0 .0)) (c .before .before .before .before .before .before .before .before .before .slot-offset .ensures)
-    (entry-put (stateIn l) _ i l _ (slots-read controller l) (count-read controller l) (c .before .before .before .before .before .before .before .before .before .before .before .before .pre .0 .1) (good-kept l (c .before .before .before .before .before .before .before .before .before .before .before .before .pre .0 .0)) (c .before .before .before .before .before .before .before .before .before .slot-offset .ensures) (omega arith)
-    (c .before .before .before .before .before .before .before .before .before .before .before .before .args .v) _ _ _ _ (c .before .before .before .before .before .before .pack-fields .ensures) (c .before .before .pack-read .ensures) (omega arith) (logged-of l (c .before .before .before .before .before .before .before .before .before .before .before .before .pre .0 .0) i (c .before .before .before .before .before .before .before .before .before .before .before .before .pre .0 .1) v refl .whole))
+    slot-stored (stateIn l) _ i (withLast v (start .args .v)) l _ _ (slots-read controller l) (count-read controller l) (start .pre .0 .1) (start .pre .1) (good-kept l (start .pre .0 .0)) slot-offset
+    (entry-put (stateIn l) _ i l _ (slots-read controller l) (count-read controller l) (start .pre .0 .1) (good-kept l (start .pre .0 .0)) slot-offset (omega arith)
+    (start .args .v) _ _ _ _ pack-fields pack-read (omega arith) (logged-of l (start .pre .0 .0) i (start .pre .0 .1) v refl .whole))
 
 pub store-read-spec : {M : Type 1} → statement M
 store-read-spec =

@@ -35,17 +35,22 @@ same-length c = search needs
 
 returns : tie.Need-returns
 returns c =
-    let l = (c .before .before .before .before .before .before .before .before .before .before .before .before .before .before .before .args .s .now) in
-    let i = (c .before .before .before .before .before .before .before .before .before .before .before .before .before .before .before .args .i) in
-    let good = (c .before .before .before .before .before .before .before .before .before .before .before .before .before .before .before .pre .0 .0) in
+    let start = let c : tie.After-slot-offset = search in let c : tie.Start = search in c in
+    let slot-offset = let c : tie.After-slot-offset = search in c .slot-offset .ensures in
+    let pack-fields = let c : tie.After-pack-fields = search in c .pack-fields .ensures in
+    let pack-reads = let c : tie.After-pack-reads = search in c .pack-reads .ensures in
+    let put = let c : tie.After-put = search in c .put .ensures in
+    let l = (start .args .s .now) in
+    let i = (start .args .i) in
+    let good = (start .pre .0 .0) in
     let v = lay (slotAt (stateIn l) i) in
     let slot =
-    slot-stored (stateIn l) _ i (withWritesOf v (c .before .before .before .before .before .before .before .before .before .before .before .before .before .before .before .args .v)) l _ _ (slots-read controller l) (count-read controller l) (c .before .before .before .before .before .before .before .before .before .before .before .before .before .before .before .pre .0 .1) (c .before .before .before .before .before .before .before .before .before .before .before .before .before .before .before .pre .1) (good-kept l good) (c .before .before .before .before .before .before .before .before .before .before .before .before .slot-offset .ensures)
-    (reads-put (stateIn l) _ i l _ (slots-read controller l) (count-read controller l) (c .before .before .before .before .before .before .before .before .before .before .before .before .before .before .before .pre .0 .1) (good-kept l good) (c .before .before .before .before .before .before .before .before .before .before .before .before .slot-offset .ensures) (omega arith)
-    (c .before .before .before .before .before .before .before .before .before .before .before .before .before .before .before .args .v) _ _ (c .before .before .before .before .before .before .before .before .before .before .pack-fields .ensures) (c .before .before .before .before .before .before .pack-reads .ensures)) in
-    (c .before .before .put .ensures)
-    ∙ ap (λ (k : List ℕ). splice k 6 (toBe 8 (c .before .before .before .before .before .before .before .before .before .before .before .before .before .before .before .args .clock))) slot
-    ∙ pack-clock controller (turn (stateIn l) i (stateIn l .clock) (stateIn l .cells) (view (withWritesOf v (c .before .before .before .before .before .before .before .before .before .before .before .before .before .before .before .args .v)))) (c .before .before .before .before .before .before .before .before .before .before .before .before .before .before .before .args .clock)
+    slot-stored (stateIn l) _ i (withWritesOf v (start .args .v)) l _ _ (slots-read controller l) (count-read controller l) (start .pre .0 .1) (start .pre .1) (good-kept l good) slot-offset
+    (reads-put (stateIn l) _ i l _ (slots-read controller l) (count-read controller l) (start .pre .0 .1) (good-kept l good) slot-offset (omega arith)
+    (start .args .v) _ _ pack-fields pack-reads) in
+    put
+    ∙ ap (λ (k : List ℕ). splice k 6 (toBe 8 (start .args .clock))) slot
+    ∙ pack-clock controller (turn (stateIn l) i (stateIn l .clock) (stateIn l .cells) (view (withWritesOf v (start .args .v)))) (start .args .clock)
 
 pub store-reads-clock-spec : {M : Type 1} → statement M
 store-reads-clock-spec =

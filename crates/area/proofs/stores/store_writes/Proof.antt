@@ -26,13 +26,17 @@ same-length c = search needs
 
 returns : tie.Need-returns
 returns c =
-    let l = (c .before .before .before .before .before .before .before .before .before .before .before .args .s .now) in
-    let i = (c .before .before .before .before .before .before .before .before .before .before .before .args .i) in
-    let good = (c .before .before .before .before .before .before .before .before .before .before .before .pre .0 .0) in
+    let start = let c : tie.Start = search in c in
+    let slot-offset = let c : tie.After-slot-offset = search in c .slot-offset .ensures in
+    let pack-fields = let c : tie.After-pack-fields = search in c .pack-fields .ensures in
+    let pack-writes = let c : tie.After-pack-writes = search in c .pack-writes .ensures in
+    let l = let c : tie.Start = search in c .args .s .now in
+    let i = let c : tie.Start = search in c .args .i in
+    let good = let c : tie.Start = search in c .pre .0 .0 in
     let v = lay (slotAt (stateIn l) i) in
-    slot-stored (stateIn l) _ i (withReadsOf v (c .before .before .before .before .before .before .before .before .before .before .before .args .v)) l _ _ (slots-read controller l) (count-read controller l) (c .before .before .before .before .before .before .before .before .before .before .before .pre .0 .1) (c .before .before .before .before .before .before .before .before .before .before .before .pre .1) (good-kept l good) (c .before .before .before .before .before .before .before .before .slot-offset .ensures)
-    (writes-put (stateIn l) _ i l _ (slots-read controller l) (count-read controller l) (c .before .before .before .before .before .before .before .before .before .before .before .pre .0 .1) (good-kept l good) (c .before .before .before .before .before .before .before .before .slot-offset .ensures) (omega arith)
-    (c .before .before .before .before .before .before .before .before .before .before .before .args .v) _ _ (c .before .before .before .before .before .before .pack-fields .ensures) (c .before .before .pack-writes .ensures))
+    slot-stored (stateIn l) _ i (withReadsOf v (start .args .v)) l _ _ (slots-read controller l) (count-read controller l) (start .pre .0 .1) (start .pre .1) (good-kept l good) slot-offset
+    (writes-put (stateIn l) _ i l _ (slots-read controller l) (count-read controller l) (start .pre .0 .1) (good-kept l good) slot-offset (omega arith)
+    (start .args .v) _ _ pack-fields pack-writes)
 
 pub store-writes-spec : {M : Type 1} → statement M
 store-writes-spec =
