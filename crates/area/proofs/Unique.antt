@@ -1,4 +1,4 @@
--- Each public function's contract leaves one answer: it says that the answer, or the area at exit, is one value.
+-- Each public function's contract leaves one answer: it says that the answer is one value.
 use mathlib.Core.Bool.{Bool}
 use mathlib.Core.List.{List}
 use mathlib.Core.Path.{_≡_}
@@ -20,8 +20,6 @@ use Rattle.rules.specs.declared.Cell.{Cell}
 use Rattle.area.specs.declared.Obstacle.{Obstacle}
 use Rattle.area.specs.Good.{stateIn}
 use Rattle.area.specs.Reload.{recordAt, markedReads, reloadedReads, obstacleIn}
-use Rattle.area.specs.Stores.{slotStored, slotCellStored, slotClockStored, slotFreedStored}
-use Rattle.area.specs.Laid.{Laid}
 
 module _ (l : List ℕ) where
   pub count-unique : (r₁ r₂ : ℕ) → r₁ ≡ cellCount (stateIn l) → r₂ ≡ cellCount (stateIn l) → r₁ ≡ r₂
@@ -65,22 +63,5 @@ module _ (l : List ℕ) where
     pub first-obstacle-unique : (r₁ r₂ : Obstacle) → r₁ ≡ obstacleIn l i → r₂ ≡ obstacleIn l i → r₁ ≡ r₂
     first-obstacle-unique r₁ r₂ = unique
 
-    -- the stores: whichever record they put
-    module _ (v : SlotRecord) where
-      pub slot-stored-unique : (s₁ s₂ : List ℕ) → s₁ ≡ slotStored l i v → s₂ ≡ slotStored l i v → s₁ ≡ s₂
-      slot-stored-unique s₁ s₂ = unique
-
-      pub slot-cell-stored-unique : (c : ℕ) (x : Cell) (s₁ s₂ : List ℕ) → s₁ ≡ slotCellStored l i v c x → s₂ ≡ slotCellStored l i v c x → s₁ ≡ s₂
-      slot-cell-stored-unique c x s₁ s₂ = unique
-
-      pub slot-clock-stored-unique : (clock : ℕ) (s₁ s₂ : List ℕ) → s₁ ≡ slotClockStored l i v clock → s₂ ≡ slotClockStored l i v clock → s₁ ≡ s₂
-      slot-clock-stored-unique clock s₁ s₂ = unique
-
-      pub slot-freed-stored-unique : (s₁ s₂ : List ℕ) → s₁ ≡ slotFreedStored l i v → s₂ ≡ slotFreedStored l i v → s₁ ≡ s₂
-      slot-freed-stored-unique s₁ s₂ = unique
-
   pub held-by-other-unique : (i : ℕ) (x : Cell) (r₁ r₂ : Bool) → r₁ ≡ heldByOther i x → r₂ ≡ heldByOther i x → r₁ ≡ r₂
   held-by-other-unique i x r₁ r₂ = unique
-
-  pub lay-out-unique : (ds : List ℕ) (r₁ r₂ : ℕ) (s₁ s₂ : List ℕ) → Laid l ds r₁ s₁ → Laid l ds r₂ s₂ → (r₁ ≡ r₂) × (s₁ ≡ s₂)
-  lay-out-unique ds r₁ r₂ s₁ s₂ p q = (unique (p .code) (q .code), unique (p .bytes) (q .bytes))

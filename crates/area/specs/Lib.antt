@@ -1,4 +1,2 @@
 pub mod Good
-pub mod Stores
 pub mod Reload
-pub mod Laid

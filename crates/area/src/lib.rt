@@ -1,9 +1,8 @@
-// The lent area, read and written in place: cells, slots and the clock at their offsets, and the lay-out of a fresh area.
+// The lent area, read in place: the cells, the slots and the clock at their offsets, and what the cells say of a slot's read log.
 ghost use mathlib.Core.Path.{_≡_};
 ghost use Prim.Native.Nat.{_+_, _<_, _≤_};
 ghost use lib.ListN.{length, drop, getD};
 ghost use Rattle.wire.specs.Field.{be};
-ghost use Rattle.wire.specs.Part.{splice};
 ghost use Rattle.slot.specs.Fields.{fieldsOf, withoutReads};
 ghost use Rattle.slot.specs.Layout.{readCapacity, writeCapacity, noRead, noWrite};
 ghost use Rattle.slot.specs.Logic.{_or_};
@@ -12,7 +11,7 @@ ghost use Rattle.slot.specs.Operations.{readFound, writeFound};
 ghost use Rattle.rules.specs.Model.{controller, cellOffset, slotOffset};
 ghost use Rattle.rules.specs.State.{cellCount, cellAt, slotAt};
 ghost use Rattle.rules.specs.Cells.{heldByOther, newer, withMark, reloaded};
-ghost use Rattle.rules.specs.Layout.{countIn, cellOf, cellBytes, lay};
+ghost use Rattle.rules.specs.Layout.{countIn, cellOf, lay};
 ghost use Rattle.area.specs.Good.{Good, stateIn};
 ghost use Rattle.area.specs.Reload.{markedReads, reloadedReads, obstacleIn};
 use rules::Cell;
@@ -22,24 +21,21 @@ use slot::SlotRecord;
 use slot::WriteEntry;
 use slot::WriteFound;
 
-pub mod fresh;
-pub mod stores;
-
 // In the header: version (1), length (4), number of cells (1), clock. The cells follow it, and the slots the cells.
-const COUNT: usize = 5;
+pub const COUNT: usize = 5;
 
-const CLOCK: usize = 6;
+pub const CLOCK: usize = 6;
 
 // Sizes in bytes, and how many slots there are.
-const STAMP: usize = 8;
+pub const STAMP: usize = 8;
 
-const HEADER: usize = 14;
+pub const HEADER: usize = 14;
 
-const CELL: usize = 14;
+pub const CELL: usize = 14;
 
-const SLOT: usize = 197;
+pub const SLOT: usize = 197;
 
-const SLOTS: usize = 8;
+pub const SLOTS: usize = 8;
 
 // The number of cells.
 pub fn count(s: &[u8]) -> u8
@@ -58,7 +54,7 @@ pub fn clock(s: &[u8]) -> u64
 }
 
 // The word at `at`.
-fn word_at(s: &[u8], at: usize) -> u32
+pub fn word_at(s: &[u8], at: usize) -> u32
     requires { ⌜ at + 4 ≤ length (now s) ⌝ }
     ensures { λ r. ⌜ r ≡ be 4 (drop at (now (s .entry))) ⌝ }
 {
@@ -79,14 +75,14 @@ fn cell_of(s: &[u8], at: usize) -> Cell
 }
 
 // Where cell `c` starts.
-fn cell_offset(c: u8) -> usize
+pub fn cell_offset(c: u8) -> usize
     ensures { λ r. ⌜ r ≡ cellOffset controller c ⌝ }
 {
     HEADER + CELL * (c as usize)
 }
 
 // Where slot `i` starts, behind the cells.
-fn slot_offset(s: &[u8], i: u8) -> usize
+pub fn slot_offset(s: &[u8], i: u8) -> usize
     requires { ⌜ Good (now s) × (i < 8) ⌝ }
     ensures { λ r. ⌜ r ≡ slotOffset controller (countIn (now (s .entry))) i ⌝ }
 {
@@ -274,15 +270,4 @@ pub fn first_obstacle(s: &[u8], i: u8) -> Obstacle
         }
         k += 1;
     }
-}
-
-// Puts a cell at `at`.
-fn put_cell(s: &mut [u8], at: usize, x: Cell)
-    requires { ⌜ at + 14 ≤ length (now s) ⌝ }
-    ensures { λ r. ⌜ now (s .exit) ≡ splice (now (s .entry)) at (cellBytes 8 x) ⌝ }
-{
-    s[at] = x.kind;
-    s[at + 1] = x.holder;
-    wire::put(s, at + 2, 4, x.word as u64);
-    wire::put(s, at + 6, STAMP, x.stamp);
 }

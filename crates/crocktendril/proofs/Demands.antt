@@ -18,8 +18,7 @@ use Rattle.rules.specs.Outcome.{Outcome, replyOf}
 use Rattle.rules.specs.Step.{Call, step}
 use Rattle.rules.specs.Layout.{pack, stateOf}
 use Rattle.rules.specs.AreaRight.{wellFormed}
-use Rattle.rules.specs.Area as area
-use Rattle.rules.specs.Area.{Answered, answered, stepOnBytes, atRest, describedCells, fresh, lengthsFit, layOut}
+use Rattle.rules.specs.Area.{Laying, Answered, answered, stepOnBytes, atRest, describedCells, fresh, lengthsFit, layOut}
 use Rattle.rules.proofs.Controller.{controller-fits}
 use Rattle.rules.proofs.RoundTrip.{round-trip}
 use Rattle.rules.proofs.LaidOut.{laid-right, lays-out}
@@ -29,11 +28,12 @@ use Rattle.history.specs.AreaHistory.{areaHistory}
 use Rattle.history.proofs.Keeps.{keeps}
 use Rattle.history.proofs.Keeps.OnBytes.{answered-reply, stepped-packed}
 use Rattle.history.proofs.Histories.{histories}
-use Rattle.crocktendril.specs.Contract.{Stepped, LaidOut}
+use Rattle.fresh.specs.LaidOut.{LaidOut}
+use Rattle.crocktendril.specs.Contract.{Stepped}
 use Rattle.crocktendril.specs.Demands.{Demand1, Demand2, Made, inTurn, lastLeft, happened, Demand3AtC}
 use Rattle.crocktendril.proofs.Words.{step-word}
 
-abbrev laid : ℕ → List ℕ → area.LaidOut
+abbrev laid : ℕ → List ℕ → Laying
 laid code bytes = record { code = code; bytes = bytes }
 
 -- the reply on bytes has a word of 32 bits

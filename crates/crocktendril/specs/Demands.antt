@@ -15,7 +15,8 @@ use Rattle.rules.specs.Area.{stepOnBytes, atRest}
 use Rattle.rules.specs.RoundTrip.{RoundTrip}
 use Rattle.history.specs.History.{Event, Demand3}
 use Rattle.history.specs.AreaHistory.{areaHistory}
-use Rattle.crocktendril.specs.Contract.{Stepped, LaidOut}
+use Rattle.fresh.specs.LaidOut.{LaidOut}
+use Rattle.crocktendril.specs.Contract.{Stepped}
 
 -- "Arbitrary area contents and arguments get a definite reply."
 pub record Demand1 : Type 0 where

@@ -8,7 +8,6 @@ ghost use Rattle.rules.specs.Steps as rule;
 ghost use Rattle.area.specs.Good.{Good};
 ghost use Rattle.twilight.specs.Did.{Did};
 ghost use Rattle.twilight.specs.Asked.{noRoom, sharedRead};
-use area::stores;
 use call::Reply;
 use rules::Cell;
 use slot::ReadEntry;

@@ -20,7 +20,6 @@ ghost use Rattle.area.specs.Good.{Good, stateIn};
 ghost use Rattle.twilight.specs.Did.{Did};
 ghost use Rattle.twilight.specs.Asked.{markedUnignored};
 use area::Obstacle;
-use area::stores;
 use call::Reply;
 use rules::Cell;
 use slot::ReadFound;
