@@ -91,9 +91,9 @@ linked:
 
 # What the gate runs once all is proved: the comparison on sheets, and what is linked with the library, which needs
 # nothing of its surroundings but memcpy and memset.
-linked-test: lib linked sheets-test
+linked-test: lib linked sheets-test guide-sheets
 	test "$$(nm -u $(LIBRARY) | awk '$$1 == "U" { print $$2 }' | sort | xargs)" = "memcpy memset"
-	$(MAKE) --no-print-directory example guide guide-sheets
+	$(MAKE) --no-print-directory example guide
 	cd oracle/linked && cargo fmt --check
 	$(LINKED)/fuzz seed=$(SEED)
 
