@@ -1,0 +1,2 @@
+pub mod WrongCores
+pub mod EdgesOnAreas

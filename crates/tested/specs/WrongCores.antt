@@ -1,0 +1,131 @@
+-- The five wrong cores of "What the contracts are tested against", each whole, and the statement that the contract of `crocktendril_step` allows none of them.
+use mathlib.Core.Bool.{true, false, not, cond}
+use mathlib.Core.List.{List, [], _∷_, map}
+use mathlib.Core.Path.{_≡_}
+use Prim.Native.Nat.{ℕ, suc, pred, _/_, _-_, _^_, _<_, _≤_}
+use lib.Dec.{eqb, ltb}
+use lib.ListN.{length, getD, set}
+use Rattle.wire.specs.Field.{Bytes}
+use Rattle.call.specs.declared.Reply.the-variants.{Done, Verdict, NotWellFormed, NotAllowed, ReloadHeld, Aborted}
+use Rattle.call.specs.Answer.{replyNumber}
+use Rattle.slot.specs.declared.ReadEntry.{ReadEntry}
+use Rattle.slot.specs.declared.WriteEntry.{WriteEntry}
+use Rattle.slot.specs.Layout.{noWrite}
+use Rattle.slot.specs.Logic.{_and_}
+use Rattle.slot.specs.Logs.{someMarked}
+use Rattle.rules.specs.declared.Cell.{Cell}
+use Rattle.rules.specs.Model.{controller}
+use Rattle.rules.specs.State.{State, idle, twilight, noCell, cellAt, slotAt, turn}
+use Rattle.rules.specs.Cells.{withMark, reloaded, obstacle, freed, freeAll}
+use Rattle.rules.specs.Outcome.{Outcome, refused, accepted, whenLocking, whenTwilight, whenPublishing, refuseIf, foundOr, belowLastStamp}
+use Rattle.rules.specs.Steps.{publishingOrIdle}
+use Rattle.rules.specs.Step.{Call, insideSlots, step}
+use Rattle.rules.specs.Layout.{stateOf}
+use Rattle.rules.specs.AreaRight.{wellFormed}
+use Rattle.rules.specs.Area.{Answered, answered}
+use Rattle.crocktendril.specs.Contract.{Stepped}
+
+-- A core: what it answers to a call on an area, and the bytes that it leaves there.
+pub record Result : Type 0 where
+  pub answer : ℕ
+  pub left : List ℕ
+
+abbrev pub Core : Type 0
+Core = List ℕ → Call → Result
+
+-- What C can ask on a well-formed area: four bytes and a word of 32 bits.
+pub record Asked (l : List ℕ) (call : Call) : Type 0 where
+  pub bytes : Bytes l
+  pub formed : wellFormed controller l ≡ true
+  pub step : call .step < 256
+  pub slot : call .slot < 256
+  pub cell : call .cell < 256
+  pub kind : call .kind < 256
+  pub word : call .word < 2 ^ 32
+
+-- It meets the contract of `crocktendril_step`. What it does with an area that is not well formed is not looked at, so that no core below is shut out for that.
+abbrev pub Meets : Core → Type 0
+Meets core = (l : List ℕ) (call : Call) → Asked l call → Stepped l call (core l call .answer) (core l call .left)
+
+-- "a core that always refuses": with whichever code, from 1 to 12
+abbrev pub AlwaysRefuses : Core → Type 0
+AlwaysRefuses core = (l : List ℕ) (call : Call) → Asked l call → (1 ≤ core l call .answer / 2 ^ 40) × (core l call .answer / 2 ^ 40 ≤ 12)
+
+-- "one that always replies the same": with whichever number, and whatever it leaves
+abbrev pub AlwaysRepliesTheSame : Core → Type 0
+AlwaysRepliesTheSame core = (l m : List ℕ) (call next : Call) → Asked l call → Asked m next → core l call .answer ≡ core m next .answer
+
+-- "one that changes nothing": whatever it answers
+abbrev pub ChangesNothing : Core → Type 0
+ChangesNothing core = (l : List ℕ) (call : Call) → Asked l call → core l call .left ≡ l
+
+-- The last two are the rules' step but for some rows. A step on states is carried to areas as `stepOnBytes` carries the rules' own ..
+abbrev pub resultOf : Answered → Result
+resultOf a = record { answer = replyNumber (a .reply); left = a .bytes }
+
+unfoldable pub coreOf : (State → Call → Outcome) → Core
+coreOf next l call =
+    resultOf (cond (wellFormed controller l) (answered controller l (next (stateOf controller l) call)) (record { reply = NotWellFormed; bytes = l }))
+
+-- .. and the row of one number is another one
+unfoldable pub withRow : ℕ → (State → ℕ → Outcome) → (State → Call → Outcome) → State → Call → Outcome
+withRow number row next S a = cond (eqb (a .step) number) (insideSlots controller (a .slot) (row S (pred (a .slot)))) (next S a)
+
+-- "one that writes all cells at finish and only pretends to publish": at finish every cell of the write log gets its word and the commit stamp and stays held;
+-- publish frees the next cell and counts. Where the last publish ends nobody can tell it from the right one.
+abbrev pub writtenAs : ℕ → ℕ → Cell → Cell
+writtenAs word commit x = record { kind = x .kind; holder = x .holder; word = word; stamp = commit }
+
+unfoldable pub allWritten : ℕ → List WriteEntry → List Cell → List Cell
+allWritten commit [] cells = cells
+allWritten commit (e ∷ writes) cells = allWritten commit writes (set cells (e .cell) (writtenAs (e .word) commit (getD cells (e .cell) noCell)))
+
+unfoldable pub finishWrites : State → ℕ → Outcome
+finishWrites S i =
+    whenTwilight (slotAt S i) λ ignoring start commit reads writes.
+    cond (someMarked reads and not ignoring)
+    (accepted Aborted (turn S i (S .clock) (freeAll i (S .cells)) idle))
+    (accepted Done (turn S i (S .clock) (allWritten commit writes (S .cells)) (publishingOrIdle ignoring 0 start commit reads writes)))
+
+unfoldable pub publishNothing : State → ℕ → Outcome
+publishNothing S i =
+    whenPublishing (slotAt S i) λ ignoring taken start commit reads writes.
+    let c = getD writes taken noWrite .cell in
+    accepted Done
+    (turn S i (S .clock) (set (S .cells) c (freed (cellAt S c))) (publishingOrIdle ignoring (suc taken) start commit reads writes))
+
+abbrev pub writesAtFinish : State → Call → Outcome
+writesAtFinish = withRow 12 finishWrites (withRow 13 publishNothing (step controller))
+
+-- "one that invents stamps": enter and reload take the stamp that `stamp` makes of the clock, in the place of clock + 1
+unfoldable pub enterInvents : (ℕ → ℕ) → State → ℕ → Outcome
+enterInvents stamp S i =
+    whenLocking (slotAt S i) λ taken start reads writes.
+    refuseIf (ltb taken (length writes)) NotAllowed
+    (belowLastStamp controller S
+    (let entries = map (withMark S i start) reads in
+    accepted (Verdict (not (someMarked entries)))
+    (turn S i (stamp (S .clock)) (S .cells) (twilight false start (stamp (S .clock)) entries writes))))
+
+unfoldable pub reloadInvents : (ℕ → ℕ) → State → ℕ → Outcome
+reloadInvents stamp S i =
+    whenTwilight (slotAt S i) λ ignoring start commit reads writes.
+    foundOr (obstacle S i reads) (λ (e : ReadEntry). refused (ReloadHeld (e .cell) (cellAt S (e .cell) .holder)))
+    (belowLastStamp controller S
+    (accepted Done
+    (turn S i (stamp (S .clock)) (S .cells)
+    (twilight false start (stamp (S .clock)) (map (reloaded S) reads) writes))))
+
+abbrev pub inventsStamps : (ℕ → ℕ) → State → Call → Outcome
+inventsStamps stamp = withRow 6 (enterInvents stamp) (withRow 10 (reloadInvents stamp) (step controller))
+
+-- None of them is allowed.
+pub record ShutOut : Type 0 where
+  pub refusing : (core : Core) → AlwaysRefuses core → Meets core → ⊥
+  pub replyingTheSame : (core : Core) → AlwaysRepliesTheSame core → Meets core → ⊥
+  pub changingNothing : (core : Core) → ChangesNothing core → Meets core → ⊥
+  pub writingAtFinish : Meets (coreOf writesAtFinish) → ⊥
+  -- one wrong stamp, at whichever clock
+  pub inventingStamps : (stamp : ℕ → ℕ) (clock : ℕ) → clock < 2 ^ 64 - 1 → stamp clock < 2 ^ 64 → ¬ (stamp clock ≡ suc clock) → Meets (coreOf (inventsStamps stamp)) → ⊥
+  -- The rules' own step, carried to areas in the same way, is allowed.
+  pub allowed : Meets (coreOf (step controller))
