@@ -4,13 +4,12 @@ use mathlib.Core.List.{List, [], _∷_}
 use mathlib.Core.Path.{_≡_, refl}
 use Prim.Native.Nat.{ℕ, _-_, _^_, _≤_}
 use native.Mathlib.Omega.{arith}
-use lib.Dec.{leb}
 use borrow.Author.Tests.{le-leb}
 use Rattle.slot.specs.Logic.{same, every, all, pairwise}
 use Rattle.rules.specs.Model.{controller}
 use Rattle.rules.specs.State.{State}
-use Rattle.rules.specs.LogsRight.{cellRight, stampsApart, holdersRight, cellCountRight}
-use Rattle.rules.specs.StateRight.{slotRight, holds, shapeRight, stateRightButHolders, stateHoldersRight, stateRight}
+use Rattle.rules.specs.LogsRight.{cellRight, loggedRight, readsRight, writesRight, commitBetween, stampsApart, holdersRight, cellCountRight}
+use Rattle.rules.specs.StateRight.{logsRight, slotRight, holds, shapeRight, stateRightButHolders, stateHoldersRight, stateRight}
 use Rattle.rules.specs.Step.{Call}
 use Rattle.rules.specs.Run.{endState}
 use Rattle.rules.specs.Edges.{two, seventeen}
@@ -18,16 +17,21 @@ use Rattle.rules.proofs.Open.{computed}
 use Rattle.rules.proofs.Controller.{controller-fits}
 use Rattle.history.proofs.Keeps.{keeps}
 
+-- opens all that the judgement of a given state computes
+unfoldable pub judged : ℕ
+unfolding computed same every all pairwise cellRight loggedRight readsRight writesRight commitBetween stampsApart holdersRight cellCountRight logsRight slotRight holds shapeRight stateRightButHolders stateHoldersRight stateRight
+judged = 0
+
 -- two fresh cells, at any clock
 abbrev pub twoAt : ℕ → State
 twoAt clock = record { clock = clock; cells = two .cells; slots = two .slots }
 
 pub two-right : (clock : ℕ) → clock ≤ 2 ^ 64 - 1 → stateRight controller (twoAt clock) ≡ true
-unfolding computed same every all pairwise cellRight stampsApart holdersRight cellCountRight slotRight holds shapeRight stateRightButHolders stateHoldersRight stateRight
+unfolding judged
 two-right clock h = rw (le-leb clock (2 ^ 64 - 1) h, le-leb 0 clock (omega arith))
 
 pub seventeen-right : stateRight controller seventeen ≡ true
-unfolding computed same every all pairwise cellRight stampsApart holdersRight cellCountRight slotRight holds shapeRight stateRightButHolders stateHoldersRight stateRight
+unfolding judged
 seventeen-right = refl
 
 -- .. and so is every state that calls lead to

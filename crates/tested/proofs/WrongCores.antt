@@ -1,17 +1,16 @@
 -- None of the wrong cores meets the contract of `crocktendril_step`: each answers or leaves something else at a short history from a fresh area.
-use mathlib.Core.Bool.{true}
+use mathlib.Core.Bool.{Bool, true, false}
 use mathlib.Core.List.{List, [], _∷_}
-use mathlib.Core.Path.{_≡_, refl, sym, _∙_, ap}
+use mathlib.Core.Path.{_≡_, refl, sym, _∙_, ap, ap₂}
 use Prim.Native.Nat.{ℕ, suc, _*_, _/_, _-_, _^_, _<_, _≤_}
 use native.Mathlib.Omega.{arith}
 use lib.Dec.{eqb, lit<}
 use borrow.Author.Tests.{ne-eqb}
 use Rattle.call.specs.Answer.{replyNumber}
-use Rattle.slot.specs.Logic.{same, every, all, pairwise}
+use Rattle.slot.specs.Logic.{all}
 use Rattle.rules.specs.Model.{controller}
-use Rattle.rules.specs.State.{State, cellAt, slotAt}
-use Rattle.rules.specs.LogsRight.{cellRight, loggedRight, readsRight, writesRight, commitBetween, stampsApart, holdersRight, cellCountRight}
-use Rattle.rules.specs.StateRight.{logsRight, slotRight, holds, shapeRight, stateRightButHolders, stateHoldersRight, stateRight}
+use Rattle.rules.specs.State.{State, cellAt, slotAt, writesOf}
+use Rattle.rules.specs.StateRight.{stateRight}
 use Rattle.rules.specs.Outcome.{Outcome, refused, accepted, replyOf, after}
 use Rattle.rules.specs.Step.{Call, step}
 use Rattle.rules.specs.Layout.{lay, pack, stateOf, clockIn}
@@ -22,9 +21,10 @@ use Rattle.rules.proofs.Open.{computed}
 use Rattle.rules.proofs.Controller.{controller-fits}
 use Rattle.rules.proofs.Places.{clock-held}
 use Rattle.rules.proofs.RoundTrip.{pack-right, state-back, round-trip}
+use Rattle.history.proofs.Keeps.{keeps}
 use Rattle.crocktendril.proofs.Demands.{demand2}
-use Rattle.tested.specs.WrongCores.{Result, Core, Asked, Meets, AlwaysRefuses, AlwaysRepliesTheSame, ChangesNothing, resultOf, coreOf, withRow, allWritten, finishWrites, publishNothing, writesAtFinish, enterInvents, reloadInvents, inventsStamps, ShutOut}
-use Rattle.tested.proofs.Formed.{twoAt, two-right, end-right}
+use Rattle.tested.specs.WrongCores.{Result, Core, Asked, Meets, AlwaysRefuses, AlwaysRepliesTheSame, ChangesNothing, allHaveWords, WritesAtFinish, PretendsToPublish, resultOf, coreOf, withRow, allWritten, finishWrites, publishNothing, writesAndPretends, enterInvents, reloadInvents, inventsStamps, ShutOut}
+use Rattle.tested.proofs.Formed.{judged, twoAt, two-right, end-right}
 
 -- a call of a step with a slot alone, on the area of a well-formed state
 asked : (S : State) → stateRight controller S ≡ true → (step slot : ℕ) → step < 256 → slot < 256 → Asked (pack controller S) (alone step slot)
@@ -71,18 +71,64 @@ replying-the-same core alike meets =
     sym (begin-done core meets) ∙ alike (pack controller two) (pack controller two) (alone 1 1) (alone 4 1) begun closed ∙ close-refused core meets in
     omega arith
 
--- the areas of two well-formed states are the same only if the states are
-same-state : (S T : State) → stateRight controller S ≡ true → stateRight controller T ≡ true → pack controller S ≡ pack controller T → S ≡ T
-same-state S T right also e =
-    sym (state-back controller controller-fits S right) ∙ ap (stateOf controller) e ∙ state-back controller controller-fits T also
+-- the state that such a core has to leave
+module _ (core : Core) (meets : Meets core) (S : State) (right : stateRight controller S ≡ true) (call : Call) (a : Asked (pack controller S) call) where
+  leaves : stateOf controller (core (pack controller S) call .left) ≡ after S (step controller S call)
+  leaves =
+      ap (stateOf controller) (has-to core meets S right call a .1)
+      ∙ state-back controller controller-fits (after S (step controller S call)) (keeps controller controller-fits .stateKept S call right)
 
 changing-nothing : (core : Core) → ChangesNothing core → Meets core → ⊥
 unfolding computed
 changing-nothing core still meets =
     let right = two-right 0 (omega arith) in
-    let e : two ≡ endState controller two (alone 1 1 ∷ []) =
-    same-state two _ right (end-right two (alone 1 1 ∷ []) right) (sym (still (pack controller two) (alone 1 1) begun) ∙ has-to core meets two right (alone 1 1) begun .1) in
-    let phases : _≡_ {A = ℕ} 0 1 = ap (λ (S : State). lay (slotAt S 0) .phase) e in
+    let phases : _≡_ {A = ℕ} 0 1 =
+    ap (λ (S : State). lay (slotAt S 0) .phase)
+    (sym (state-back controller controller-fits two right) ∙ ap (stateOf controller) (sym (still (pack controller two) (alone 1 1) begun)) ∙ leaves core meets two right (alone 1 1) begun) in
+    omega arith
+
+-- slot 1 writes cell 0: up to enter, and up to finish
+upToFinish : List Call
+upToFinish = alone 1 1 ∷ call 3 1 0 2 9 ∷ alone 4 1 ∷ alone 5 1 ∷ alone 6 1 ∷ []
+
+toFinish : State
+toFinish = endState controller two upToFinish
+
+finish-right : stateRight controller toFinish ≡ true
+unfolding toFinish
+finish-right = end-right two upToFinish (two-right 0 (omega arith))
+
+finishing : Asked (pack controller toFinish) (alone 12 1)
+finishing = asked toFinish finish-right 12 1 (lit< tt) (lit< tt)
+
+writing-at-finish : (core : Core) → WritesAtFinish core → Meets core → ⊥
+unfolding computed toFinish upToFinish all replyNumber
+writing-at-finish core writes meets =
+    let wrong : _≡_ {A = Bool} false true =
+    sym
+    (ap₂ (λ (T S : State). allHaveWords T (writesOf (slotAt S 0)))
+    (leaves core meets toFinish finish-right (alone 12 1) finishing) (state-back controller controller-fits toFinish finish-right))
+    ∙ writes (pack controller toFinish) (alone 12 1) finishing refl (has-to core meets toFinish finish-right (alone 12 1) finishing .0) in
+    let z : _≡_ {A = ℕ} 0 1 = cc in
+    omega arith
+
+toPublish : State
+toPublish = after toFinish (step controller toFinish (alone 12 1))
+
+publish-right : stateRight controller toPublish ≡ true
+unfolding toPublish
+publish-right = keeps controller controller-fits .stateKept toFinish (alone 12 1) finish-right
+
+publishing : Asked (pack controller toPublish) (alone 13 1)
+publishing = asked toPublish publish-right 13 1 (lit< tt) (lit< tt)
+
+pretending-to-publish : (core : Core) → PretendsToPublish core → Meets core → ⊥
+unfolding computed toFinish upToFinish toPublish
+pretending-to-publish core pretends meets =
+    let words : _≡_ {A = ℕ} 9 5 =
+    sym (ap (λ (T : State). cellAt T 0 .word) (leaves core meets toPublish publish-right (alone 13 1) publishing))
+    ∙ pretends (pack controller toPublish) (alone 13 1) publishing refl 0
+    ∙ ap (λ (T : State). cellAt T 0 .word) (state-back controller controller-fits toPublish publish-right) in
     omega arith
 
 -- a step on states, carried to the area of a well-formed state
@@ -101,20 +147,18 @@ module _ (next : State → Call → Outcome) (meets : Meets (coreOf next)) (S : 
   has-to-leave : pack controller (after S (next S call)) ≡ pack controller (after S (step controller S call))
   has-to-leave = sym (core-packed next S call right) ∙ has-to (coreOf next) meets S right call a .1
 
--- slot 1 writes cell 0, up to its enter; finish
-toFinish : State
-toFinish = endState controller two (alone 1 1 ∷ call 3 1 0 2 9 ∷ alone 4 1 ∷ alone 5 1 ∷ alone 6 1 ∷ [])
-
-written-right : stateRight controller (after toFinish (writesAtFinish toFinish (alone 12 1))) ≡ true
-unfolding computed toFinish withRow finishWrites allWritten same every all pairwise cellRight loggedRight readsRight writesRight commitBetween stampsApart holdersRight cellCountRight logsRight slotRight holds shapeRight stateRightButHolders stateHoldersRight stateRight
+written-right : stateRight controller (after toFinish (writesAndPretends toFinish (alone 12 1))) ≡ true
+unfolding judged toFinish upToFinish withRow finishWrites allWritten
 written-right = refl
 
-writing-at-finish : Meets (coreOf writesAtFinish) → ⊥
-unfolding computed toFinish withRow finishWrites allWritten
-writing-at-finish meets =
-    let right = end-right two (alone 1 1 ∷ call 3 1 0 2 9 ∷ alone 4 1 ∷ alone 5 1 ∷ alone 6 1 ∷ []) (two-right 0 (omega arith)) in
-    let e = same-state _ _ written-right (end-right toFinish (alone 12 1 ∷ []) right) (has-to-leave writesAtFinish meets toFinish right (alone 12 1) (asked toFinish right 12 1 (lit< tt) (lit< tt))) in
-    let words : _≡_ {A = ℕ} 9 5 = ap (λ (S : State). cellAt S 0 .word) e in
+writing-and-pretending : Meets (coreOf writesAndPretends) → ⊥
+unfolding computed toFinish upToFinish toPublish withRow finishWrites allWritten
+writing-and-pretending meets =
+    let words : _≡_ {A = ℕ} 9 5 =
+    ap (λ (S : State). cellAt S 0 .word)
+    (sym (state-back controller controller-fits _ written-right)
+    ∙ ap (stateOf controller) (has-to-leave writesAndPretends meets toFinish finish-right (alone 12 1) finishing)
+    ∙ state-back controller controller-fits toPublish publish-right) in
     omega arith
 
 -- slot 1 with empty logs at any clock, up to its close; enter
@@ -150,6 +194,8 @@ shut-out =
       replyingTheSame = replying-the-same;
       changingNothing = changing-nothing;
       writingAtFinish = writing-at-finish;
+      pretendingToPublish = pretending-to-publish;
+      writingAndPretending = writing-and-pretending;
       inventingStamps = inventing-stamps;
       allowed = λ l call a. record { answer = refl; bytes = refl };
     }

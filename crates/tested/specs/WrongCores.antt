@@ -1,5 +1,5 @@
 -- The five wrong cores of "What the contracts are tested against", each whole, and the statement that the contract of `crocktendril_step` allows none of them.
-use mathlib.Core.Bool.{true, false, not, cond}
+use mathlib.Core.Bool.{Bool, true, false, not, cond}
 use mathlib.Core.List.{List, [], _∷_, map}
 use mathlib.Core.Path.{_≡_}
 use Prim.Native.Nat.{ℕ, suc, pred, _/_, _-_, _^_, _<_, _≤_}
@@ -11,11 +11,11 @@ use Rattle.call.specs.Answer.{replyNumber}
 use Rattle.slot.specs.declared.ReadEntry.{ReadEntry}
 use Rattle.slot.specs.declared.WriteEntry.{WriteEntry}
 use Rattle.slot.specs.Layout.{noWrite}
-use Rattle.slot.specs.Logic.{_and_}
+use Rattle.slot.specs.Logic.{_and_, all}
 use Rattle.slot.specs.Logs.{someMarked}
 use Rattle.rules.specs.declared.Cell.{Cell}
 use Rattle.rules.specs.Model.{controller}
-use Rattle.rules.specs.State.{State, idle, twilight, noCell, cellAt, slotAt, turn}
+use Rattle.rules.specs.State.{State, idle, twilight, noCell, cellAt, slotAt, writesOf, turn}
 use Rattle.rules.specs.Cells.{withMark, reloaded, obstacle, freed, freeAll}
 use Rattle.rules.specs.Outcome.{Outcome, refused, accepted, whenLocking, whenTwilight, whenPublishing, refuseIf, foundOr, belowLastStamp}
 use Rattle.rules.specs.Steps.{publishingOrIdle}
@@ -59,7 +59,23 @@ AlwaysRepliesTheSame core = (l m : List ℕ) (call next : Call) → Asked l call
 abbrev pub ChangesNothing : Core → Type 0
 ChangesNothing core = (l : List ℕ) (call : Call) → Asked l call → core l call .left ≡ l
 
--- The last two are the rules' step but for some rows. A step on states is carried to areas as `stepOnBytes` carries the rules' own ..
+-- "one that writes all cells at finish and only pretends to publish": a finish that is done leaves every cell of the write log with its word ..
+abbrev pub allHaveWords : State → List WriteEntry → Bool
+allHaveWords S writes = all (λ (e : WriteEntry). eqb (cellAt S (e .cell) .word) (e .word)) writes
+
+abbrev pub WritesAtFinish : Core → Type 0
+WritesAtFinish core =
+    (l : List ℕ) (call : Call) → Asked l call → call .step ≡ 12 → core l call .answer ≡ 0
+    → allHaveWords (stateOf controller (core l call .left)) (writesOf (slotAt (stateOf controller l) (pred (call .slot)))) ≡ true
+
+-- .. and a publish leaves every cell with the word that it had
+abbrev pub PretendsToPublish : Core → Type 0
+PretendsToPublish core =
+    (l : List ℕ) (call : Call) → Asked l call → call .step ≡ 13
+    → (c : ℕ) → cellAt (stateOf controller (core l call .left)) c .word ≡ cellAt (stateOf controller l) c .word
+
+-- Such a core whole, and one that invents stamps, are the rules' step but for two rows. A step on states is carried to areas as `stepOnBytes` carries the rules'
+-- own ..
 abbrev pub resultOf : Answered → Result
 resultOf a = record { answer = replyNumber (a .reply); left = a .bytes }
 
@@ -71,8 +87,7 @@ coreOf next l call =
 unfoldable pub withRow : ℕ → (State → ℕ → Outcome) → (State → Call → Outcome) → State → Call → Outcome
 withRow number row next S a = cond (eqb (a .step) number) (insideSlots controller (a .slot) (row S (pred (a .slot)))) (next S a)
 
--- "one that writes all cells at finish and only pretends to publish": at finish every cell of the write log gets its word and the commit stamp and stays held;
--- publish frees the next cell and counts. Where the last publish ends nobody can tell it from the right one.
+-- At finish every cell of the write log gets its word and the commit stamp, and stays held; publish frees the next cell and counts.
 abbrev pub writtenAs : ℕ → ℕ → Cell → Cell
 writtenAs word commit x = record { kind = x .kind; holder = x .holder; word = word; stamp = commit }
 
@@ -94,8 +109,8 @@ publishNothing S i =
     accepted Done
     (turn S i (S .clock) (set (S .cells) c (freed (cellAt S c))) (publishingOrIdle ignoring (suc taken) start commit reads writes))
 
-abbrev pub writesAtFinish : State → Call → Outcome
-writesAtFinish = withRow 12 finishWrites (withRow 13 publishNothing (step controller))
+abbrev pub writesAndPretends : State → Call → Outcome
+writesAndPretends = withRow 12 finishWrites (withRow 13 publishNothing (step controller))
 
 -- "one that invents stamps": enter and reload take the stamp that `stamp` makes of the clock, in the place of clock + 1
 unfoldable pub enterInvents : (ℕ → ℕ) → State → ℕ → Outcome
@@ -124,8 +139,10 @@ pub record ShutOut : Type 0 where
   pub refusing : (core : Core) → AlwaysRefuses core → Meets core → ⊥
   pub replyingTheSame : (core : Core) → AlwaysRepliesTheSame core → Meets core → ⊥
   pub changingNothing : (core : Core) → ChangesNothing core → Meets core → ⊥
-  pub writingAtFinish : Meets (coreOf writesAtFinish) → ⊥
-  -- one wrong stamp, at whichever clock
+  pub writingAtFinish : (core : Core) → WritesAtFinish core → Meets core → ⊥
+  pub pretendingToPublish : (core : Core) → PretendsToPublish core → Meets core → ⊥
+  pub writingAndPretending : Meets (coreOf writesAndPretends) → ⊥
+  -- however the stamp is made, one that is wrong at one clock is enough
   pub inventingStamps : (stamp : ℕ → ℕ) (clock : ℕ) → clock < 2 ^ 64 - 1 → stamp clock < 2 ^ 64 → ¬ (stamp clock ≡ suc clock) → Meets (coreOf (inventsStamps stamp)) → ⊥
   -- The rules' own step, carried to areas in the same way, is allowed.
   pub allowed : Meets (coreOf (step controller))
