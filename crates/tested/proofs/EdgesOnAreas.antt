@@ -1,7 +1,7 @@
 -- E1 to E12 on areas: what holds of states holds of any way of making calls that follows them, and the bytes do.
 use mathlib.Core.Bool.{true}
 use mathlib.Core.List.{List, [], _∷_, map}
-use mathlib.Core.Path.{_≡_, refl, sym, _∙_, ap}
+use mathlib.Core.Path.{_≡_, refl, _∙_, ap}
 use Prim.Native.Nat.{ℕ}
 use native.Mathlib.Omega.{arith}
 use lib.ListN.{length}
@@ -24,7 +24,7 @@ use Rattle.rules.proofs.RoundTrip.{round-trip}
 use Rattle.rules.proofs.Edges.{edges}
 use Rattle.history.specs.Keeps.{repliesOnBytes, bytesAfter}
 use Rattle.history.proofs.Keeps.{keeps}
-use Rattle.crocktendril.specs.Demands.{Made, inTurn, lastLeft}
+use Rattle.crocktendril.specs.Demands.{Made, inTurn}
 use Rattle.crocktendril.proofs.Demands.{same-end}
 use Rattle.tested.specs.EdgesOnAreas.{ToldOnAreas, EndsOnAreas, asNumber, ToldAtC, EndsAtC, EdgesOnAreas}
 use Rattle.tested.proofs.Formed.{two-right, seventeen-right}
