@@ -2,17 +2,19 @@
 use mathlib.Core.Bool.{Bool, true, false}
 use mathlib.Core.List.{List, [], _∷_}
 use mathlib.Core.Path.{_≡_, refl, sym, _∙_, ap, ap₂}
-use Prim.Native.Nat.{ℕ, suc, _*_, _/_, _-_, _^_, _<_, _≤_}
+use Prim.Native.Nat.{ℕ, suc, pred, _*_, _/_, _-_, _^_, _<_, _≤_}
 use native.Mathlib.Omega.{arith}
-use lib.Dec.{lit<}
-use borrow.Author.Tests.{ne-eqb}
+use lib.Dec.{eqb, lit<}
+use borrow.Author.Tests.{ne-eqb, eqb-true}
+use Rattle.call.specs.Decode.{decoded}
 use Rattle.call.specs.Answer.{replyNumber}
-use Rattle.slot.specs.Logic.{all}
+use Rattle.slot.specs.Logic.{_and_, all}
 use Rattle.rules.specs.Model.{controller}
 use Rattle.rules.specs.State.{State, cellAt, slotAt, writesOf}
 use Rattle.rules.specs.StateRight.{stateRight}
 use Rattle.rules.specs.Outcome.{Outcome, refused, accepted, replyOf, after}
-use Rattle.rules.specs.Step.{Call, step}
+use Rattle.rules.specs.Steps.{enter, reload}
+use Rattle.rules.specs.Step.{Call, insideSlots, stepOf, step}
 use Rattle.rules.specs.Layout.{lay, pack, stateOf, clockIn}
 use Rattle.rules.specs.Area.{answered, stepOnBytes}
 use Rattle.rules.specs.Run.{call, endState}
@@ -22,8 +24,10 @@ use Rattle.rules.proofs.Controller.{controller-fits}
 use Rattle.rules.proofs.Places.{clock-held}
 use Rattle.rules.proofs.RoundTrip.{pack-right, state-back, round-trip}
 use Rattle.history.proofs.Keeps.{keeps}
+use Rattle.history.proofs.Keeps.Lists.{cond-elim}
 use Rattle.crocktendril.proofs.Demands.{demand2}
-use Rattle.tested.specs.WrongCores.{Core, Asked, Meets, AlwaysRefuses, AlwaysRepliesTheSame, ChangesNothing, allHaveWords, WritesAtFinish, PretendsToPublish, coreOf, withRow, allWritten, finishWrites, writesAndPretends, enterInvents, inventsStamps, ShutOut}
+use Rattle.tested.specs.Core.{Core, Asked, Meets, coreOf, withRow}
+use Rattle.tested.specs.WrongCores.{AlwaysRefuses, AlwaysRepliesTheSame, ChangesNothing, allHaveWords, WritesAtFinish, PretendsToPublish, allWritten, finishWrites, writesAndPretends, enterInvents, reloadInvents, inventsStamps, ShutOut}
 use Rattle.tested.proofs.Formed.{judged, twoAt, two-right, end-right}
 
 -- a case that C can put to a core: the area of a well-formed state, and a call
@@ -187,6 +191,18 @@ module _ (clock : ℕ) (below : clock < 2 ^ 64 - 1) where
         ∙ clock-held controller _ (rw right-clock (omega arith))
         ∙ right-clock
 
+-- another row that says what the rules' row says changes nothing
+same-row : (number : ℕ) (row : State → ℕ → Outcome) (next : State → Call → Outcome) (S : State) (a : Call)
+    → (a .step ≡ number → insideSlots controller (a .slot) (row S (pred (a .slot))) ≡ step controller S a) → next S a ≡ step controller S a
+    → withRow number row next S a ≡ step controller S a
+unfolding withRow
+same-row number row next S a here other =
+    cond-elim (λ (o : Outcome). o ≡ step controller S a) (eqb (a .step) number) _ _ (λ e. here (eqb-true _ _ e)) (λ e. other)
+
+right-step : (S : State) (a : Call) → inventsStamps suc S a ≡ step controller S a
+unfolding step stepOf decoded _and_ enter reload enterInvents reloadInvents
+right-step S a = same-row 6 (enterInvents suc) _ S a (λ e. rw e) (same-row 10 (reloadInvents suc) (step controller) S a (λ e. rw e) refl)
+
 pub shut-out : ShutOut
 unfolding coreOf stepOnBytes
 shut-out =
@@ -198,5 +214,6 @@ shut-out =
       pretendingToPublish = pretending-to-publish;
       writingAndPretending = writing-and-pretending;
       inventingStamps = λ stamp clock below fits wrong meets. wrong (same-stamp clock below stamp fits meets);
-      allowed = λ l call a. record { answer = refl; bytes = refl };
+      rightStamps = λ l call a. rw (right-step (stateOf controller l) call) (record { answer = refl; bytes = refl });
+      rightStep = λ l call a. record { answer = refl; bytes = refl };
     }

@@ -5,9 +5,7 @@ use mathlib.Core.Path.{_≡_}
 use Prim.Native.Nat.{ℕ, suc, pred, _/_, _-_, _^_, _<_, _≤_}
 use lib.Dec.{eqb, ltb}
 use lib.ListN.{length, getD, set}
-use Rattle.wire.specs.Field.{Bytes}
-use Rattle.call.specs.declared.Reply.the-variants.{Done, Verdict, NotWellFormed, NotAllowed, ReloadHeld, Aborted}
-use Rattle.call.specs.Answer.{replyNumber}
+use Rattle.call.specs.declared.Reply.the-variants.{Done, Verdict, NotAllowed, ReloadHeld, Aborted}
 use Rattle.slot.specs.declared.ReadEntry.{ReadEntry}
 use Rattle.slot.specs.declared.WriteEntry.{WriteEntry}
 use Rattle.slot.specs.Layout.{noWrite}
@@ -19,33 +17,9 @@ use Rattle.rules.specs.State.{State, idle, twilight, noCell, cellAt, slotAt, wr
 use Rattle.rules.specs.Cells.{withMark, reloaded, obstacle, freed, freeAll}
 use Rattle.rules.specs.Outcome.{Outcome, refused, accepted, whenLocking, whenTwilight, whenPublishing, refuseIf, foundOr, belowLastStamp}
 use Rattle.rules.specs.Steps.{publishingOrIdle}
-use Rattle.rules.specs.Step.{Call, insideSlots, step}
+use Rattle.rules.specs.Step.{Call, step}
 use Rattle.rules.specs.Layout.{stateOf}
-use Rattle.rules.specs.AreaRight.{wellFormed}
-use Rattle.rules.specs.Area.{Answered, answered}
-use Rattle.crocktendril.specs.Contract.{Stepped}
-
--- A core: what it answers to a call on an area, and the bytes that it leaves there.
-pub record Result : Type 0 where
-  pub answer : ℕ
-  pub left : List ℕ
-
-abbrev pub Core : Type 0
-Core = List ℕ → Call → Result
-
--- What C can ask on a well-formed area: four bytes and a word of 32 bits.
-pub record Asked (l : List ℕ) (call : Call) : Type 0 where
-  pub bytes : Bytes l
-  pub formed : wellFormed controller l ≡ true
-  pub step : call .step < 256
-  pub slot : call .slot < 256
-  pub cell : call .cell < 256
-  pub kind : call .kind < 256
-  pub word : call .word < 2 ^ 32
-
--- It meets the contract of `crocktendril_step`. What it does with an area that is not well formed is not looked at, so that no core below is shut out for that.
-abbrev pub Meets : Core → Type 0
-Meets core = (l : List ℕ) (call : Call) → Asked l call → Stepped l call (core l call .answer) (core l call .left)
+use Rattle.tested.specs.Core.{Core, Asked, Meets, coreOf, withRow}
 
 -- "a core that always refuses": with whichever code, from 1 to 12
 abbrev pub AlwaysRefuses : Core → Type 0
@@ -74,20 +48,8 @@ PretendsToPublish core =
     (l : List ℕ) (call : Call) → Asked l call → call .step ≡ 13
     → (c : ℕ) → cellAt (stateOf controller (core l call .left)) c .word ≡ cellAt (stateOf controller l) c .word
 
--- Such a core whole, and one that invents stamps, are the rules' step but for two rows. A step on states is carried to areas as `stepOnBytes` carries the rules'
--- own ..
-abbrev pub resultOf : Answered → Result
-resultOf a = record { answer = replyNumber (a .reply); left = a .bytes }
-
-unfoldable pub coreOf : (State → Call → Outcome) → Core
-coreOf next l call =
-    resultOf (cond (wellFormed controller l) (answered controller l (next (stateOf controller l) call)) (record { reply = NotWellFormed; bytes = l }))
-
--- .. and the row of one number is another one
-unfoldable pub withRow : ℕ → (State → ℕ → Outcome) → (State → Call → Outcome) → State → Call → Outcome
-withRow number row next S a = cond (eqb (a .step) number) (insideSlots controller (a .slot) (row S (pred (a .slot)))) (next S a)
-
--- At finish every cell of the write log gets its word and the commit stamp, and stays held; publish frees the next cell and counts.
+-- A core that does both and is the rules' own but for these two rows: at finish every cell of the write log gets its word and the commit stamp and stays held;
+-- publish frees the next cell and counts.
 abbrev pub writtenAs : ℕ → ℕ → Cell → Cell
 writtenAs word commit x = record { kind = x .kind; holder = x .holder; word = word; stamp = commit }
 
@@ -112,7 +74,7 @@ publishNothing S i =
 abbrev pub writesAndPretends : State → Call → Outcome
 writesAndPretends = withRow 12 finishWrites (withRow 13 publishNothing (step controller))
 
--- "one that invents stamps": enter and reload take the stamp that `stamp` makes of the clock, in the place of clock + 1
+-- "one that invents stamps", the rules' own but for two rows: enter and reload take the stamp that `stamp` makes of the clock, in the place of clock + 1
 unfoldable pub enterInvents : (ℕ → ℕ) → State → ℕ → Outcome
 enterInvents stamp S i =
     whenLocking (slotAt S i) λ taken start reads writes.
@@ -142,7 +104,8 @@ pub record ShutOut : Type 0 where
   pub writingAtFinish : (core : Core) → WritesAtFinish core → Meets core → ⊥
   pub pretendingToPublish : (core : Core) → PretendsToPublish core → Meets core → ⊥
   pub writingAndPretending : Meets (coreOf writesAndPretends) → ⊥
-  -- however the stamp is made, one that is wrong at one clock is enough
+  -- however the stamp is made: one of 64 bits that is not clock + 1, at whichever clock, is enough
   pub inventingStamps : (stamp : ℕ → ℕ) (clock : ℕ) → clock < 2 ^ 64 - 1 → stamp clock < 2 ^ 64 → ¬ (stamp clock ≡ suc clock) → Meets (coreOf (inventsStamps stamp)) → ⊥
-  -- The rules' own step, carried to areas in the same way, is allowed.
-  pub allowed : Meets (coreOf (step controller))
+  -- The same core is allowed if the stamp is clock + 1, and so is the one made of the rules' own step.
+  pub rightStamps : Meets (coreOf (inventsStamps suc))
+  pub rightStep : Meets (coreOf (step controller))
