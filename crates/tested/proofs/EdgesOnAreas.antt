@@ -15,7 +15,7 @@ use Rattle.rules.specs.LogsRight.{cellCountRight}
 use Rattle.rules.specs.StateRight.{stateRight}
 use Rattle.rules.specs.Step.{Call}
 use Rattle.rules.specs.Layout.{pack}
-use Rattle.rules.specs.Area.{describedCell, describedCells, lengthsFit, layOut}
+use Rattle.rules.specs.Area.{describedCell, describedCells, stepOnBytes, lengthsFit, layOut}
 use Rattle.rules.specs.Run.{Shown}
 use Rattle.rules.specs.Edges.{two, seventeen, late, Edges}
 use Rattle.rules.proofs.Open.{computed}
@@ -81,6 +81,17 @@ at-c =
     (λ S calls T right e made same turns. same-end (pack controller S) made turns ∙ ap (λ (x : List Call). bytesAfter controller (pack controller S) x) same ∙ e)
     on-areas
 
+can-be-made : (l : List ℕ) (calls : List Call) → (made : List Made) × (map (λ (m : Made). m .call) made ≡ calls) × inTurn l made
+unfolding inTurn
+can-be-made l [] = ([], refl, tt)
+can-be-made l (call ∷ calls) =
+    let a = stepOnBytes controller l call in
+    let rest = can-be-made (a .bytes) calls in (
+      record { call = call; answer = replyNumber (a .reply); left = a .bytes } ∷ rest .0,
+      ap (λ (x : List Call). call ∷ x) (rest .1),
+      (record { answer = refl; bytes = refl }, rest .2),
+    )
+
 two-laid-out : (a : List ℕ) → length a ≡ 1618
     → layOut controller a (2 ∷ 0 ∷ 0 ∷ 0 ∷ 5 ∷ 1 ∷ 0 ∷ 0 ∷ 0 ∷ 0 ∷ []) ≡ record { code = 0; bytes = pack controller two }
 unfolding computed be all cellCountRight describedCell describedCells lengthsFit layOut
@@ -96,6 +107,7 @@ edges-on-areas =
     record {
       onAreas = on-areas;
       atC = at-c;
+      canBeMade = can-be-made;
       twoLaidOut = two-laid-out;
       seventeenLaidOut = seventeen-laid-out;
       lateFormed = round-trip controller controller-fits .unpackPack late (two-right (late .clock) (omega arith));

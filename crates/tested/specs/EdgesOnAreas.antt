@@ -40,6 +40,8 @@ EndsAtC S calls T =
 pub record EdgesOnAreas : Type 0 where
   pub onAreas : Edges ToldOnAreas EndsOnAreas
   pub atC : Edges ToldAtC EndsAtC
+  -- any calls can be made in turn: `atC` speaks of some
+  pub canBeMade : (l : List ℕ) (calls : List Call) → (made : List Made) × (map (λ (m : Made). m .call) made ≡ calls) × inTurn l made
   -- The areas that the rows start from are what the lay-out leaves of an area of the right length, whatever stood there ..
   pub twoLaidOut : (a : List ℕ) → length a ≡ 1618
       → layOut controller a (2 ∷ 0 ∷ 0 ∷ 0 ∷ 5 ∷ 1 ∷ 0 ∷ 0 ∷ 0 ∷ 0 ∷ []) ≡ record { code = 0; bytes = pack controller two }
