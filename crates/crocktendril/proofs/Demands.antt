@@ -108,7 +108,7 @@ same-answers l (m ∷ made) turns =
     let here = turns .0 in
     rw (here .answer, same-answers (m .left) made (turns .1), here .bytes)
 
-same-end : (l : List ℕ) (made : List Made) → inTurn l made → lastLeft l made ≡ bytesAfter controller l (map (λ (m : Made). m .call) made)
+pub same-end : (l : List ℕ) (made : List Made) → inTurn l made → lastLeft l made ≡ bytesAfter controller l (map (λ (m : Made). m .call) made)
 unfolding inTurn lastLeft bytesAfter
 same-end l [] turns = refl
 same-end l (m ∷ made) turns = same-end (m .left) made (turns .1) ∙ ap (λ (b : List ℕ). bytesAfter controller b (map (λ (x : Made). x .call) made)) (turns .0 .bytes)
