@@ -3,48 +3,47 @@ use mathlib.Core.Bool.{Bool}
 use mathlib.Core.Path.{_≡_}
 use mathlib.Core.List.{List}
 use Prim.Native.Nat.{ℕ}
-use lib.ListN.{drop, getD}
-use Rattle.wire.specs.Part.{splice}
 use Rattle.wire.proofs.Unique.{unique}
-use Rattle.slot.specs.Layout.{noRead, noWrite, empty, slotOf, slotBytes}
-use Rattle.slot.specs.Fields.{fieldsOf, withoutReads}
-use Rattle.slot.specs.Logs.{readLog, writeLog, readEntry, writeEntry, someMarked}
-use Rattle.slot.specs.Operations.{readFound, writeFound}
 use Rattle.slot.specs.declared.ReadEntry.{ReadEntry}
 use Rattle.slot.specs.declared.WriteEntry.{WriteEntry}
 use Rattle.slot.specs.declared.ReadFound.{ReadFound}
 use Rattle.slot.specs.declared.WriteFound.{WriteFound}
 use Rattle.slot.specs.declared.SlotRecord.{SlotRecord}
+use Rattle.packed.specs.Places.{fieldsIn, withWritesIn, readEntryIn, writeEntryIn, readFoundIn, writeFoundIn, markedIn, slotCleared, fieldsPut, readEntryPut, readLogPut, writeLogPut}
 
--- what is read of the slot at `at`, and what is put there
-module _ (s : List ℕ) (at width : ℕ) where
-  abbrev here : SlotRecord
-  here = slotOf width (drop at s)
-
-  pub fields-unique : (r₁ r₂ : SlotRecord) → r₁ ≡ fieldsOf here → r₂ ≡ fieldsOf here → r₁ ≡ r₂
+module _ (width at : ℕ) (s : List ℕ) where
+  pub fields-unique : (r₁ r₂ : SlotRecord) → r₁ ≡ fieldsIn width at s → r₂ ≡ fieldsIn width at s → r₁ ≡ r₂
   fields-unique r₁ r₂ = unique
 
-  pub with-writes-unique : (r₁ r₂ : SlotRecord) → r₁ ≡ withoutReads here → r₂ ≡ withoutReads here → r₁ ≡ r₂
+  pub with-writes-unique : (r₁ r₂ : SlotRecord) → r₁ ≡ withWritesIn width at s → r₂ ≡ withWritesIn width at s → r₁ ≡ r₂
   with-writes-unique r₁ r₂ = unique
 
-  pub read-at-unique : (k : ℕ) (r₁ r₂ : ReadEntry) → r₁ ≡ getD (here .reads) k noRead → r₂ ≡ getD (here .reads) k noRead → r₁ ≡ r₂
+  pub read-at-unique : (k : ℕ) (r₁ r₂ : ReadEntry) → r₁ ≡ readEntryIn width at s k → r₂ ≡ readEntryIn width at s k → r₁ ≡ r₂
   read-at-unique k r₁ r₂ = unique
 
-  pub write-at-unique : (k : ℕ) (r₁ r₂ : WriteEntry) → r₁ ≡ getD (here .writes) k noWrite → r₂ ≡ getD (here .writes) k noWrite → r₁ ≡ r₂
+  pub write-at-unique : (k : ℕ) (r₁ r₂ : WriteEntry) → r₁ ≡ writeEntryIn width at s k → r₂ ≡ writeEntryIn width at s k → r₁ ≡ r₂
   write-at-unique k r₁ r₂ = unique
 
-  pub find-read-unique : (cell : ℕ) (r₁ r₂ : ReadFound) → r₁ ≡ readFound (readEntry (readLog here) cell) → r₂ ≡ readFound (readEntry (readLog here) cell) → r₁ ≡ r₂
+  pub find-read-unique : (cell : ℕ) (r₁ r₂ : ReadFound) → r₁ ≡ readFoundIn width at s cell → r₂ ≡ readFoundIn width at s cell → r₁ ≡ r₂
   find-read-unique cell r₁ r₂ = unique
 
-  pub find-write-unique : (cell : ℕ) (r₁ r₂ : WriteFound) → r₁ ≡ writeFound (writeEntry (writeLog here) cell) → r₂ ≡ writeFound (writeEntry (writeLog here) cell) → r₁ ≡ r₂
+  pub find-write-unique : (cell : ℕ) (r₁ r₂ : WriteFound) → r₁ ≡ writeFoundIn width at s cell → r₂ ≡ writeFoundIn width at s cell → r₁ ≡ r₂
   find-write-unique cell r₁ r₂ = unique
 
-  pub marked-here-unique : (r₁ r₂ : Bool) → r₁ ≡ someMarked (readLog here) → r₂ ≡ someMarked (readLog here) → r₁ ≡ r₂
-  marked-here-unique r₁ r₂ = unique
+  pub some-marked-unique : (r₁ r₂ : Bool) → r₁ ≡ markedIn width at s → r₂ ≡ markedIn width at s → r₁ ≡ r₂
+  some-marked-unique r₁ r₂ = unique
 
-  pub clear-unique : (s₁ s₂ : List ℕ) → s₁ ≡ splice s at (slotBytes width empty) → s₂ ≡ splice s at (slotBytes width empty) → s₁ ≡ s₂
-  clear-unique s₁ s₂ = unique
+  pub clear-unique : (r₁ r₂ : List ℕ) → r₁ ≡ slotCleared width at s → r₂ ≡ slotCleared width at s → r₁ ≡ r₂
+  clear-unique r₁ r₂ = unique
 
-  -- each function that packs puts one part at one place
-  pub pack-unique : (place : ℕ) (part s₁ s₂ : List ℕ) → s₁ ≡ splice s place part → s₂ ≡ splice s place part → s₁ ≡ s₂
-  pack-unique place part s₁ s₂ = unique
+  pub put-fields-unique : (v : SlotRecord) (r₁ r₂ : List ℕ) → r₁ ≡ fieldsPut width at s v → r₂ ≡ fieldsPut width at s v → r₁ ≡ r₂
+  put-fields-unique v r₁ r₂ = unique
+
+  pub put-read-unique : (k : ℕ) (v : SlotRecord) (r₁ r₂ : List ℕ) → r₁ ≡ readEntryPut width at s k v → r₂ ≡ readEntryPut width at s k v → r₁ ≡ r₂
+  put-read-unique k v r₁ r₂ = unique
+
+  pub put-reads-unique : (v : SlotRecord) (r₁ r₂ : List ℕ) → r₁ ≡ readLogPut width at s v → r₂ ≡ readLogPut width at s v → r₁ ≡ r₂
+  put-reads-unique v r₁ r₂ = unique
+
+  pub put-writes-unique : (v : SlotRecord) (r₁ r₂ : List ℕ) → r₁ ≡ writeLogPut width at s v → r₂ ≡ writeLogPut width at s v → r₁ ≡ r₂
+  put-writes-unique v r₁ r₂ = unique

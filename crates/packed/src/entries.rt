@@ -7,7 +7,6 @@ ghost use Rattle.wire.specs.Field.{be};
 ghost use Rattle.wire.specs.Part.{splice};
 ghost use Rattle.wire.specs.Table.{tab};
 ghost use Rattle.slot.specs.Layout.{
-  readCapacity,
   writeCapacity,
   readSize,
   writeSize,
@@ -16,8 +15,6 @@ ghost use Rattle.slot.specs.Layout.{
   readBytes,
   writeOf,
   writeBytes,
-  readLogBytes,
-  writeLogBytes,
   startAt,
 };
 use slot::ReadEntry;
@@ -113,28 +110,4 @@ pub fn put_write_entry(s: &mut [u8], at: usize, e: WriteEntry)
 {
     s[at] = e.cell;
     wire::put(s, at + 1, 4, e.word as u64);
-}
-
-// Puts a read log at `at`.
-pub fn put_read_log(s: &mut [u8], at: usize, log: [ReadEntry; SlotRecord::READS])
-    requires { ⌜ at + readSize * readCapacity ≤ length (now s) ⌝ }
-    ensures { λ r. ⌜ now (s .exit) ≡ splice (now (s .entry)) at (readLogBytes log) ⌝ }
-{
-    let mut i = 0;
-    while i < SlotRecord::READS {
-        put_read_entry(s, at + ReadEntry::SIZE * i, log[i]);
-        i += 1;
-    }
-}
-
-// Puts a write log at `at`.
-pub fn put_write_log(s: &mut [u8], at: usize, log: [WriteEntry; SlotRecord::WRITES])
-    requires { ⌜ at + writeSize * writeCapacity ≤ length (now s) ⌝ }
-    ensures { λ r. ⌜ now (s .exit) ≡ splice (now (s .entry)) at (writeLogBytes log) ⌝ }
-{
-    let mut i = 0;
-    while i < SlotRecord::WRITES {
-        put_write_entry(s, at + WriteEntry::SIZE * i, log[i]);
-        i += 1;
-    }
 }

@@ -1,28 +1,22 @@
 // A slot's bytes in place: its record without the logs, entries of the logs where they stand, and each part of a record put where it stands.
 ghost use mathlib.Core.Path.{_≡_};
-ghost use Prim.Native.Nat.{_+_, _*_, _≤_, _<_};
-ghost use lib.ListN.{length, drop, getD};
-ghost use Rattle.wire.specs.Part.{splice};
-ghost use Rattle.slot.specs.Layout.{
-  readCapacity,
-  writeCapacity,
-  noRead,
-  noWrite,
-  readSize,
-  readBytes,
-  fieldBytes,
-  readLogBytes,
-  writeLogBytes,
-  readsAt,
-  writesAt,
-  empty,
-  slotOf,
-  slotBytes,
-  slotSize,
+ghost use Prim.Native.Nat.{_+_, _≤_, _<_};
+ghost use lib.ListN.{length};
+ghost use Rattle.slot.specs.Layout.{readCapacity, writeCapacity, slotSize};
+ghost use Rattle.packed.specs.Places.{
+  fieldsIn,
+  withWritesIn,
+  readEntryIn,
+  writeEntryIn,
+  readFoundIn,
+  writeFoundIn,
+  markedIn,
+  slotCleared,
+  fieldsPut,
+  readEntryPut,
+  readLogPut,
+  writeLogPut,
 };
-ghost use Rattle.slot.specs.Logs.{readLog, writeLog, readEntry, writeEntry, someMarked};
-ghost use Rattle.slot.specs.Operations.{readFound, writeFound};
-ghost use Rattle.slot.specs.Fields.{fieldsOf, withoutReads};
 use slot::ReadEntry;
 use slot::ReadFound;
 use slot::SlotRecord;
@@ -37,29 +31,23 @@ const READ_LOG: usize = ReadEntry::SIZE * SlotRecord::READS;
 // The slot at `at` with empty logs.
 pub fn fields(s: &[u8], at: usize, width: usize) -> SlotRecord
     requires { ⌜ (width ≤ 8) × (at + slotSize width ≤ length (now s)) ⌝ }
-    ensures { λ r. ⌜ r ≡ fieldsOf (slotOf width (drop at (now (s .entry)))) ⌝ }
+    ensures { λ r. ⌜ r ≡ fieldsIn width at (now (s .entry)) ⌝ }
 {
-    SlotRecord {
-        phase: s[at],
-        ignoring: s[at + 1] == 1,
-        taken: s[at + 2],
-        readcount: s[at + 3],
-        writecount: s[at + 4],
-        start: wire::get(s, at + 5, width),
-        commit: wire::get(s, at + 5 + width, width),
-        reads: [ReadEntry {
-            cell: 0,
-            mark: false,
-            word: 0,
-        }; SlotRecord::READS],
-        writes: [WriteEntry { cell: 0, word: 0 }; SlotRecord::WRITES],
-    }
+    let mut v = SlotRecord::empty();
+    v.phase = s[at];
+    v.ignoring = s[at + 1] == 1;
+    v.taken = s[at + 2];
+    v.readcount = s[at + 3];
+    v.writecount = s[at + 4];
+    v.start = wire::get(s, at + 5, width);
+    v.commit = wire::get(s, at + 5 + width, width);
+    v
 }
 
 // The slot at `at` with its write log alone.
 pub fn with_writes(s: &[u8], at: usize, width: usize) -> SlotRecord
     requires { ⌜ (width ≤ 8) × (at + slotSize width ≤ length (now s)) ⌝ }
-    ensures { λ r. ⌜ r ≡ withoutReads (slotOf width (drop at (now (s .entry)))) ⌝ }
+    ensures { λ r. ⌜ r ≡ withWritesIn width at (now (s .entry)) ⌝ }
 {
     let writes = entries::writes_of(s, at + 5 + 2 * width + READ_LOG);
     let mut v = fields(s, at, width);
@@ -70,7 +58,7 @@ pub fn with_writes(s: &[u8], at: usize, width: usize) -> SlotRecord
 // Read entry `k` of the slot at `at`.
 pub fn read_at(s: &[u8], at: usize, width: usize, k: usize) -> ReadEntry
     requires { ⌜ (width ≤ 8) × (at + slotSize width ≤ length (now s)) × (k < readCapacity) ⌝ }
-    ensures { λ r. ⌜ r ≡ getD (slotOf width (drop at (now (s .entry))) .reads) k noRead ⌝ }
+    ensures { λ r. ⌜ r ≡ readEntryIn width at (now (s .entry)) k ⌝ }
 {
     entries::read_of(s, at + 5 + 2 * width + ReadEntry::SIZE * k)
 }
@@ -78,7 +66,7 @@ pub fn read_at(s: &[u8], at: usize, width: usize, k: usize) -> ReadEntry
 // Write entry `k` of the slot at `at`.
 pub fn write_at(s: &[u8], at: usize, width: usize, k: usize) -> WriteEntry
     requires { ⌜ (width ≤ 8) × (at + slotSize width ≤ length (now s)) × (k < writeCapacity) ⌝ }
-    ensures { λ r. ⌜ r ≡ getD (slotOf width (drop at (now (s .entry))) .writes) k noWrite ⌝ }
+    ensures { λ r. ⌜ r ≡ writeEntryIn width at (now (s .entry)) k ⌝ }
 {
     entries::write_of(s, at + 5 + 2 * width + READ_LOG + WriteEntry::SIZE * k)
 }
@@ -86,7 +74,7 @@ pub fn write_at(s: &[u8], at: usize, width: usize, k: usize) -> WriteEntry
 // The read entry of a cell.
 pub fn find_read(s: &[u8], at: usize, width: usize, cell: u8) -> ReadFound
     requires { ⌜ (width ≤ 8) × (at + slotSize width ≤ length (now s)) ⌝ }
-    ensures { λ r. ⌜ r ≡ readFound (readEntry (readLog (slotOf width (drop at (now (s .entry))))) cell) ⌝ }
+    ensures { λ r. ⌜ r ≡ readFoundIn width at (now (s .entry)) cell ⌝ }
 {
     let log = at + 5 + 2 * width;
     let count = s[at + 3] as usize;
@@ -104,7 +92,7 @@ pub fn find_read(s: &[u8], at: usize, width: usize, cell: u8) -> ReadFound
 // The write entry of a cell.
 pub fn find_write(s: &[u8], at: usize, width: usize, cell: u8) -> WriteFound
     requires { ⌜ (width ≤ 8) × (at + slotSize width ≤ length (now s)) ⌝ }
-    ensures { λ r. ⌜ r ≡ writeFound (writeEntry (writeLog (slotOf width (drop at (now (s .entry))))) cell) ⌝ }
+    ensures { λ r. ⌜ r ≡ writeFoundIn width at (now (s .entry)) cell ⌝ }
 {
     let log = at + 5 + 2 * width + READ_LOG;
     let count = s[at + 4] as usize;
@@ -122,7 +110,7 @@ pub fn find_write(s: &[u8], at: usize, width: usize, cell: u8) -> WriteFound
 // Whether an entry of the read log is marked.
 pub fn some_marked(s: &[u8], at: usize, width: usize) -> bool
     requires { ⌜ (width ≤ 8) × (at + slotSize width ≤ length (now s)) ⌝ }
-    ensures { λ r. ⌜ r ≡ someMarked (readLog (slotOf width (drop at (now (s .entry))))) ⌝ }
+    ensures { λ r. ⌜ r ≡ markedIn width at (now (s .entry)) ⌝ }
 {
     let log = at + 5 + 2 * width;
     let count = s[at + 3] as usize;
@@ -140,7 +128,7 @@ pub fn some_marked(s: &[u8], at: usize, width: usize) -> bool
 // Clears the slot at `at` to zero throughout.
 pub fn clear(s: &mut [u8], at: usize, width: usize)
     requires { ⌜ (width ≤ 8) × (at + slotSize width ≤ length (now s)) ⌝ }
-    ensures { λ r. ⌜ now (s .exit) ≡ splice (now (s .entry)) at (slotBytes width empty) ⌝ }
+    ensures { λ r. ⌜ now (s .exit) ≡ slotCleared width at (now (s .entry)) ⌝ }
 {
     let size = 5 + 2 * width + READ_LOG + WriteEntry::SIZE * SlotRecord::WRITES;
     let mut k = 0;
@@ -153,7 +141,7 @@ pub fn clear(s: &mut [u8], at: usize, width: usize)
 // Puts all but the logs at `at`.
 pub fn put_fields(s: &mut [u8], at: usize, width: usize, v: SlotRecord)
     requires { ⌜ at + slotSize width ≤ length (now s) ⌝ }
-    ensures { λ r. ⌜ now (s .exit) ≡ splice (now (s .entry)) at (fieldBytes width v) ⌝ }
+    ensures { λ r. ⌜ now (s .exit) ≡ fieldsPut width at (now (s .entry)) v ⌝ }
 {
     entries::put_first(
         s,
@@ -171,7 +159,7 @@ pub fn put_fields(s: &mut [u8], at: usize, width: usize, v: SlotRecord)
 // Puts read entry `k` of the slot at `at`.
 pub fn put_read(s: &mut [u8], at: usize, width: usize, k: usize, v: SlotRecord)
     requires { ⌜ (at + slotSize width ≤ length (now s)) × (k < readCapacity) ⌝ }
-    ensures { λ r. ⌜ now (s .exit) ≡ splice (now (s .entry)) (at + (readsAt width + readSize * k)) (readBytes (getD (v .reads) k noRead)) ⌝ }
+    ensures { λ r. ⌜ now (s .exit) ≡ readEntryPut width at (now (s .entry)) k v ⌝ }
 {
     let e = v.reads[k];
     entries::put_read_entry(s, at + 5 + 2 * width + ReadEntry::SIZE * k, e);
@@ -180,17 +168,27 @@ pub fn put_read(s: &mut [u8], at: usize, width: usize, k: usize, v: SlotRecord)
 // Puts the read log of the slot at `at`.
 pub fn put_reads(s: &mut [u8], at: usize, width: usize, v: SlotRecord)
     requires { ⌜ at + slotSize width ≤ length (now s) ⌝ }
-    ensures { λ r. ⌜ now (s .exit) ≡ splice (now (s .entry)) (at + readsAt width) (readLogBytes (v .reads)) ⌝ }
+    ensures { λ r. ⌜ now (s .exit) ≡ readLogPut width at (now (s .entry)) v ⌝ }
 {
-    let reads = v.reads;
-    entries::put_read_log(s, at + 5 + 2 * width, reads);
+    let log = v.reads;
+    let place = at + 5 + 2 * width;
+    let mut i = 0;
+    while i < SlotRecord::READS {
+        entries::put_read_entry(s, place + ReadEntry::SIZE * i, log[i]);
+        i += 1;
+    }
 }
 
 // Puts the write log of the slot at `at`.
 pub fn put_writes(s: &mut [u8], at: usize, width: usize, v: SlotRecord)
     requires { ⌜ at + slotSize width ≤ length (now s) ⌝ }
-    ensures { λ r. ⌜ now (s .exit) ≡ splice (now (s .entry)) (at + writesAt width) (writeLogBytes (v .writes)) ⌝ }
+    ensures { λ r. ⌜ now (s .exit) ≡ writeLogPut width at (now (s .entry)) v ⌝ }
 {
-    let writes = v.writes;
-    entries::put_write_log(s, at + 5 + 2 * width + READ_LOG, writes);
+    let log = v.writes;
+    let place = at + 5 + 2 * width + READ_LOG;
+    let mut i = 0;
+    while i < SlotRecord::WRITES {
+        entries::put_write_entry(s, place + WriteEntry::SIZE * i, log[i]);
+        i += 1;
+    }
 }

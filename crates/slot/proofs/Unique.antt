@@ -3,15 +3,11 @@ use mathlib.Core.Bool.{Bool}
 use mathlib.Core.Path.{_≡_}
 use mathlib.Core.List.{List}
 use Prim.Native.Nat.{ℕ}
-use lib.ListN.{drop, getD}
-use Rattle.wire.specs.Part.{splice}
 use Rattle.wire.proofs.Unique.{unique}
-use Rattle.slot.specs.Layout.{noRead, noWrite, empty, slotOf, slotBytes}
-use Rattle.slot.specs.Fields.{fieldsOf, withoutReads}
-use Rattle.slot.specs.Logs.{readLog, writeLog, readEntry, writeEntry, someMarked}
+use Rattle.slot.specs.Layout.{empty}
+use Rattle.slot.specs.Logs.{hasMark}
 use Rattle.slot.specs.Operations.{
-  readFound,
-  writeFound,
+  idled,
   begun,
   joined,
   written,
@@ -25,15 +21,16 @@ use Rattle.slot.specs.Operations.{
 }
 use Rattle.slot.specs.declared.ReadEntry.{ReadEntry}
 use Rattle.slot.specs.declared.WriteEntry.{WriteEntry}
-use Rattle.slot.specs.declared.ReadFound.{ReadFound}
-use Rattle.slot.specs.declared.WriteFound.{WriteFound}
 use Rattle.slot.specs.declared.SlotRecord.{SlotRecord}
 
 pub empty-unique : (r₁ r₂ : SlotRecord) → r₁ ≡ empty → r₂ ≡ empty → r₁ ≡ r₂
 empty-unique r₁ r₂ = unique
 
-pub begun-unique : (start : ℕ) (r₁ r₂ : SlotRecord) → r₁ ≡ begun start → r₂ ≡ begun start → r₁ ≡ r₂
-begun-unique start r₁ r₂ = unique
+pub idled-unique : (v : SlotRecord) (r₁ r₂ : SlotRecord) → r₁ ≡ idled v → r₂ ≡ idled v → r₁ ≡ r₂
+idled-unique v r₁ r₂ = unique
+
+pub begun-unique : (v : SlotRecord) (start : ℕ) (r₁ r₂ : SlotRecord) → r₁ ≡ begun v start → r₂ ≡ begun v start → r₁ ≡ r₂
+begun-unique v start r₁ r₂ = unique
 
 pub joined-unique : (v : SlotRecord) (e : ReadEntry) (r₁ r₂ : SlotRecord) → r₁ ≡ joined v e → r₂ ≡ joined v e → r₁ ≡ r₂
 joined-unique v e r₁ r₂ = unique
@@ -62,5 +59,5 @@ finished-unique v r₁ r₂ = unique
 pub published-one-unique : (v : SlotRecord) (r₁ r₂ : SlotRecord) → r₁ ≡ publishedOne v → r₂ ≡ publishedOne v → r₁ ≡ r₂
 published-one-unique v r₁ r₂ = unique
 
-pub some-marked-unique : (v : SlotRecord) (r₁ r₂ : Bool) → r₁ ≡ someMarked (readLog v) → r₂ ≡ someMarked (readLog v) → r₁ ≡ r₂
+pub some-marked-unique : (v : SlotRecord) (r₁ r₂ : Bool) → r₁ ≡ hasMark v → r₂ ≡ hasMark v → r₁ ≡ r₂
 some-marked-unique v r₁ r₂ = unique

@@ -53,11 +53,13 @@ pub struct SlotRecord {
 }
 
 impl SlotRecord {
+    // The capacities of its logs.
     pub const READS: usize = 16;
 
     pub const WRITES: usize = 16;
 
-    fn empty() -> Self
+    // An idle slot's record: zero throughout.
+    pub fn empty() -> Self
         ensures { λ r. ⌜ r ≡ empty ⌝ }
     {
         SlotRecord {

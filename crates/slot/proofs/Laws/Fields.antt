@@ -20,7 +20,7 @@ turned-busy : (v w : SlotRecord) → (w .phase ≡ 0 → ⊥) → turnedTo v w �
 unfolding turnedTo
 turned-busy v w busy = rw (ne-eqb (w .phase) 0 busy)
 
-pub begun-fields : (v : SlotRecord) {w : SlotRecord} (start : ℕ) → v ≡ empty → w ≡ begun start → turnedTo v w ≡ begun start
+pub begun-fields : (v : SlotRecord) {w : SlotRecord} (start : ℕ) → v ≡ empty → w ≡ begun v start → turnedTo v w ≡ begun v start
 unfolding turnedTo
 begun-fields v start here made = rw (here, made)
 
