@@ -1,18 +1,28 @@
 // The lent area, read in place: the cells, the slots and the clock at their offsets, and what the cells say of a slot's read log.
 ghost use mathlib.Core.Path.{_≡_};
 ghost use Prim.Native.Nat.{_+_, _<_, _≤_};
-ghost use lib.ListN.{length, drop, getD};
-ghost use Rattle.wire.specs.Field.{be};
-ghost use Rattle.slot.specs.Fields.{fieldsOf, withoutReads};
-ghost use Rattle.slot.specs.Layout.{readCapacity, writeCapacity, noRead, noWrite};
+ghost use lib.ListN.{length, drop};
+ghost use Rattle.slot.specs.Layout.{readCapacity, writeCapacity};
 ghost use Rattle.slot.specs.Logic.{_or_};
-ghost use Rattle.slot.specs.Logs.{readLog, writeLog, readEntry, writeEntry, someMarked};
-ghost use Rattle.slot.specs.Operations.{readFound, writeFound};
-ghost use Rattle.rules.specs.Model.{controller, cellOffset, slotOffset};
-ghost use Rattle.rules.specs.State.{cellCount, cellAt, slotAt};
 ghost use Rattle.rules.specs.Cells.{heldByOther, newer, withMark, reloaded};
-ghost use Rattle.rules.specs.Layout.{countIn, cellOf, lay};
+ghost use Rattle.rules.specs.Layout.{countIn, cellOf};
 ghost use Rattle.area.specs.Good.{Good, stateIn};
+ghost use Rattle.area.specs.InPlace.{
+  cellStart,
+  slotStart,
+  wordIn,
+  cellsIn,
+  clockIn,
+  cellIn,
+  phaseIn,
+  fieldsIn,
+  writesIn,
+  readIn,
+  writeIn,
+  readFoundIn,
+  writeFoundIn,
+  markedIn,
+};
 ghost use Rattle.area.specs.Reload.{markedReads, reloadedReads, obstacleIn};
 use rules::Cell;
 use slot::ReadEntry;
@@ -40,7 +50,7 @@ pub const SLOTS: usize = 8;
 // The number of cells.
 pub fn count(s: &[u8]) -> u8
     requires { ⌜ Good (now s) ⌝ }
-    ensures { λ r. ⌜ r ≡ cellCount (stateIn (now (s .entry))) ⌝ }
+    ensures { λ r. ⌜ r ≡ cellsIn (now (s .entry)) ⌝ }
 {
     s[COUNT]
 }
@@ -48,7 +58,7 @@ pub fn count(s: &[u8]) -> u8
 // The last stamp given.
 pub fn clock(s: &[u8]) -> u64
     requires { ⌜ Good (now s) ⌝ }
-    ensures { λ r. ⌜ r ≡ stateIn (now (s .entry)) .clock ⌝ }
+    ensures { λ r. ⌜ r ≡ clockIn (now (s .entry)) ⌝ }
 {
     wire::get(s, CLOCK, STAMP)
 }
@@ -56,7 +66,7 @@ pub fn clock(s: &[u8]) -> u64
 // The word at `at`.
 pub fn word_at(s: &[u8], at: usize) -> u32
     requires { ⌜ at + 4 ≤ length (now s) ⌝ }
-    ensures { λ r. ⌜ r ≡ be 4 (drop at (now (s .entry))) ⌝ }
+    ensures { λ r. ⌜ r ≡ wordIn (now (s .entry)) at ⌝ }
 {
     wire::get(s, at, 4) as u32
 }
@@ -76,7 +86,7 @@ fn cell_of(s: &[u8], at: usize) -> Cell
 
 // Where cell `c` starts.
 pub fn cell_offset(c: u8) -> usize
-    ensures { λ r. ⌜ r ≡ cellOffset controller c ⌝ }
+    ensures { λ r. ⌜ r ≡ cellStart c ⌝ }
 {
     HEADER + CELL * (c as usize)
 }
@@ -84,7 +94,7 @@ pub fn cell_offset(c: u8) -> usize
 // Where slot `i` starts, behind the cells.
 pub fn slot_offset(s: &[u8], i: u8) -> usize
     requires { ⌜ Good (now s) × (i < 8) ⌝ }
-    ensures { λ r. ⌜ r ≡ slotOffset controller (countIn (now (s .entry))) i ⌝ }
+    ensures { λ r. ⌜ r ≡ slotStart (now (s .entry)) i ⌝ }
 {
     HEADER + CELL * (s[COUNT] as usize) + SLOT * (i as usize)
 }
@@ -92,7 +102,7 @@ pub fn slot_offset(s: &[u8], i: u8) -> usize
 // Cell `c`.
 pub fn cell_at(s: &[u8], c: u8) -> Cell
     requires { ⌜ Good (now s) × (c < countIn (now s)) ⌝ }
-    ensures { λ r. ⌜ r ≡ cellAt (stateIn (now (s .entry))) c ⌝ }
+    ensures { λ r. ⌜ r ≡ cellIn (now (s .entry)) c ⌝ }
 {
     cell_of(s, cell_offset(c))
 }
@@ -100,7 +110,7 @@ pub fn cell_at(s: &[u8], c: u8) -> Cell
 // The phase of slot `i`, counted from 0.
 pub fn phase_at(s: &[u8], i: u8) -> u8
     requires { ⌜ Good (now s) × (i < 8) ⌝ }
-    ensures { λ r. ⌜ r ≡ lay (slotAt (stateIn (now (s .entry))) i) .phase ⌝ }
+    ensures { λ r. ⌜ r ≡ phaseIn (now (s .entry)) i ⌝ }
 {
     s[slot_offset(s, i)]
 }
@@ -108,7 +118,7 @@ pub fn phase_at(s: &[u8], i: u8) -> u8
 // Slot `i` with empty logs.
 pub fn fields_at(s: &[u8], i: u8) -> SlotRecord
     requires { ⌜ Good (now s) × (i < 8) ⌝ }
-    ensures { λ r. ⌜ r ≡ fieldsOf (lay (slotAt (stateIn (now (s .entry))) i)) ⌝ }
+    ensures { λ r. ⌜ r ≡ fieldsIn (now (s .entry)) i ⌝ }
 {
     packed::fields(s, slot_offset(s, i), STAMP)
 }
@@ -116,7 +126,7 @@ pub fn fields_at(s: &[u8], i: u8) -> SlotRecord
 // Slot `i` with its write log alone.
 pub fn writes_at(s: &[u8], i: u8) -> SlotRecord
     requires { ⌜ Good (now s) × (i < 8) ⌝ }
-    ensures { λ r. ⌜ r ≡ withoutReads (lay (slotAt (stateIn (now (s .entry))) i)) ⌝ }
+    ensures { λ r. ⌜ r ≡ writesIn (now (s .entry)) i ⌝ }
 {
     packed::with_writes(s, slot_offset(s, i), STAMP)
 }
@@ -124,7 +134,7 @@ pub fn writes_at(s: &[u8], i: u8) -> SlotRecord
 // Read entry `k` of slot `i`.
 fn read_at(s: &[u8], i: u8, k: usize) -> ReadEntry
     requires { ⌜ Good (now s) × (i < 8) × (k < readCapacity) ⌝ }
-    ensures { λ r. ⌜ r ≡ getD (lay (slotAt (stateIn (now (s .entry))) i) .reads) k noRead ⌝ }
+    ensures { λ r. ⌜ r ≡ readIn (now (s .entry)) i k ⌝ }
 {
     packed::read_at(s, slot_offset(s, i), STAMP, k)
 }
@@ -132,7 +142,7 @@ fn read_at(s: &[u8], i: u8, k: usize) -> ReadEntry
 // Write entry `k` of slot `i`.
 pub fn write_at(s: &[u8], i: u8, k: u8) -> WriteEntry
     requires { ⌜ Good (now s) × (i < 8) × (k < writeCapacity) ⌝ }
-    ensures { λ r. ⌜ r ≡ getD (lay (slotAt (stateIn (now (s .entry))) i) .writes) k noWrite ⌝ }
+    ensures { λ r. ⌜ r ≡ writeIn (now (s .entry)) i k ⌝ }
 {
     packed::write_at(s, slot_offset(s, i), STAMP, k as usize)
 }
@@ -140,7 +150,7 @@ pub fn write_at(s: &[u8], i: u8, k: u8) -> WriteEntry
 // The read entry of a cell in slot `i`.
 pub fn find_read(s: &[u8], i: u8, cell: u8) -> ReadFound
     requires { ⌜ Good (now s) × (i < 8) ⌝ }
-    ensures { λ r. ⌜ r ≡ readFound (readEntry (readLog (lay (slotAt (stateIn (now (s .entry))) i))) cell) ⌝ }
+    ensures { λ r. ⌜ r ≡ readFoundIn (now (s .entry)) i cell ⌝ }
 {
     packed::find_read(s, slot_offset(s, i), STAMP, cell)
 }
@@ -148,7 +158,7 @@ pub fn find_read(s: &[u8], i: u8, cell: u8) -> ReadFound
 // The write entry of a cell in slot `i`.
 pub fn find_write(s: &[u8], i: u8, cell: u8) -> WriteFound
     requires { ⌜ Good (now s) × (i < 8) ⌝ }
-    ensures { λ r. ⌜ r ≡ writeFound (writeEntry (writeLog (lay (slotAt (stateIn (now (s .entry))) i))) cell) ⌝ }
+    ensures { λ r. ⌜ r ≡ writeFoundIn (now (s .entry)) i cell ⌝ }
 {
     packed::find_write(s, slot_offset(s, i), STAMP, cell)
 }
@@ -156,7 +166,7 @@ pub fn find_write(s: &[u8], i: u8, cell: u8) -> WriteFound
 // Whether an entry of slot `i`'s read log is marked.
 pub fn some_marked(s: &[u8], i: u8) -> bool
     requires { ⌜ Good (now s) × (i < 8) ⌝ }
-    ensures { λ r. ⌜ r ≡ someMarked (readLog (lay (slotAt (stateIn (now (s .entry))) i))) ⌝ }
+    ensures { λ r. ⌜ r ≡ markedIn (now (s .entry)) i ⌝ }
 {
     packed::some_marked(s, slot_offset(s, i), STAMP)
 }
@@ -216,7 +226,7 @@ fn reloaded_entry(s: &[u8], e: ReadEntry) -> ReadEntry
 }
 
 // The read log of slot `i` with its marks.
-pub fn marked_reads(s: &[u8], i: u8) -> [ReadEntry; 16]
+pub fn marked_reads(s: &[u8], i: u8) -> [ReadEntry; SlotRecord::READS]
     requires { ⌜ Good (now s) × (i < 8) ⌝ }
     ensures { λ r. ⌜ r ≡ markedReads (now (s .entry)) i ⌝ }
 {
@@ -233,7 +243,7 @@ pub fn marked_reads(s: &[u8], i: u8) -> [ReadEntry; 16]
 }
 
 // The read log of slot `i` with the cells' present words.
-pub fn reloaded_reads(s: &[u8], i: u8) -> [ReadEntry; 16]
+pub fn reloaded_reads(s: &[u8], i: u8) -> [ReadEntry; SlotRecord::READS]
     requires { ⌜ Good (now s) × (i < 8) ⌝ }
     ensures { λ r. ⌜ r ≡ reloadedReads (now (s .entry)) i ⌝ }
 {

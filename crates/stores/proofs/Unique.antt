@@ -5,19 +5,28 @@ use Prim.Native.Nat.{ℕ}
 use Rattle.wire.proofs.Unique.{unique}
 use Rattle.slot.specs.declared.SlotRecord.{SlotRecord}
 use Rattle.rules.specs.declared.Cell.{Cell}
-use Rattle.stores.specs.Stores.{slotStored, slotCellStored, slotClockStored, slotFreedStored}
+use Rattle.stores.specs.Stores.{storedFields, storedFieldsCell, storedRead, storedWrites, storedReadsClock, storedFreed, cellPut}
 
-module _ (l : List ℕ) (i : ℕ) where
-  -- the stores: whichever record they put
-  module _ (v : SlotRecord) where
-    pub slot-stored-unique : (s₁ s₂ : List ℕ) → s₁ ≡ slotStored l i v → s₂ ≡ slotStored l i v → s₁ ≡ s₂
-    slot-stored-unique s₁ s₂ = unique
+module _ (l : List ℕ) where
+  pub put-cell-unique : (at : ℕ) (x : Cell) (l₁ l₂ : List ℕ) → l₁ ≡ cellPut l at x → l₂ ≡ cellPut l at x → l₁ ≡ l₂
+  put-cell-unique at x l₁ l₂ = unique
 
-    pub slot-cell-stored-unique : (c : ℕ) (x : Cell) (s₁ s₂ : List ℕ) → s₁ ≡ slotCellStored l i v c x → s₂ ≡ slotCellStored l i v c x → s₁ ≡ s₂
-    slot-cell-stored-unique c x s₁ s₂ = unique
+  module _ (i : ℕ) where
+    pub store-freed-unique : (l₁ l₂ : List ℕ) → l₁ ≡ storedFreed l i → l₂ ≡ storedFreed l i → l₁ ≡ l₂
+    store-freed-unique l₁ l₂ = unique
 
-    pub slot-clock-stored-unique : (clock : ℕ) (s₁ s₂ : List ℕ) → s₁ ≡ slotClockStored l i v clock → s₂ ≡ slotClockStored l i v clock → s₁ ≡ s₂
-    slot-clock-stored-unique clock s₁ s₂ = unique
+    module _ (v : SlotRecord) where
+      pub store-fields-unique : (l₁ l₂ : List ℕ) → l₁ ≡ storedFields l i v → l₂ ≡ storedFields l i v → l₁ ≡ l₂
+      store-fields-unique l₁ l₂ = unique
 
-    pub slot-freed-stored-unique : (s₁ s₂ : List ℕ) → s₁ ≡ slotFreedStored l i v → s₂ ≡ slotFreedStored l i v → s₁ ≡ s₂
-    slot-freed-stored-unique s₁ s₂ = unique
+      pub store-fields-cell-unique : (c : ℕ) (x : Cell) (l₁ l₂ : List ℕ) → l₁ ≡ storedFieldsCell l i v c x → l₂ ≡ storedFieldsCell l i v c x → l₁ ≡ l₂
+      store-fields-cell-unique c x l₁ l₂ = unique
+
+      pub store-read-unique : (l₁ l₂ : List ℕ) → l₁ ≡ storedRead l i v → l₂ ≡ storedRead l i v → l₁ ≡ l₂
+      store-read-unique l₁ l₂ = unique
+
+      pub store-writes-unique : (l₁ l₂ : List ℕ) → l₁ ≡ storedWrites l i v → l₂ ≡ storedWrites l i v → l₁ ≡ l₂
+      store-writes-unique l₁ l₂ = unique
+
+      pub store-reads-clock-unique : (clock : ℕ) (l₁ l₂ : List ℕ) → l₁ ≡ storedReadsClock l i v clock → l₂ ≡ storedReadsClock l i v clock → l₁ ≡ l₂
+      store-reads-clock-unique clock l₁ l₂ = unique

@@ -2,18 +2,20 @@
 ghost use mathlib.Core.Path.{_≡_};
 ghost use Prim.Native.Nat.{_+_, _<_, _≤_};
 ghost use lib.ListN.{length};
-ghost use Rattle.wire.specs.Part.{splice};
 ghost use Rattle.slot.specs.Fields.{turnedTo, withLast, withReadsOf, withWritesOf};
-ghost use Rattle.slot.specs.Layout.{readCapacity, empty};
+ghost use Rattle.slot.specs.Layout.{readCapacity};
 ghost use Rattle.rules.specs.Model.{controller};
-ghost use Rattle.rules.specs.State.{slotAt};
-ghost use Rattle.rules.specs.Layout.{countIn, cellBytes, lay, view, pack};
+ghost use Rattle.rules.specs.Layout.{countIn, lay, view, pack};
 ghost use Rattle.area.specs.Good.{Good, stateIn};
+ghost use Rattle.area.specs.InPlace.{recordAt};
 ghost use Rattle.stores.specs.Stores.{
-  slotStored,
-  slotCellStored,
-  slotClockStored,
-  slotFreedStored,
+  storedFields,
+  storedFieldsCell,
+  storedRead,
+  storedWrites,
+  storedReadsClock,
+  storedFreed,
+  cellPut,
   freedCells,
   cleared,
 };
@@ -26,7 +28,7 @@ use slot::SlotRecord;
 // Puts a cell at `at`.
 pub fn put_cell(s: &mut [u8], at: usize, x: Cell)
     requires { ⌜ at + 14 ≤ length (now s) ⌝ }
-    ensures { λ r. ⌜ now (s .exit) ≡ splice (now (s .entry)) at (cellBytes 8 x) ⌝ }
+    ensures { λ r. ⌜ now (s .exit) ≡ cellPut (now (s .entry)) at x ⌝ }
 {
     s[at] = x.kind;
     s[at + 1] = x.holder;
@@ -37,8 +39,8 @@ pub fn put_cell(s: &mut [u8], at: usize, x: Cell)
 // Stores slot `i` but for its read log, which stays.
 pub fn store_writes(s: &mut [u8], i: u8, v: SlotRecord)
     requires { ⌜ Good (now s) × (i < 8) ⌝ }
-    requires { ⌜ lay (view (withReadsOf (lay (slotAt (stateIn (now s)) i)) v)) ≡ withReadsOf (lay (slotAt (stateIn (now s)) i)) v ⌝ }
-    ensures { λ r. ⌜ now (s .exit) ≡ slotStored (now (s .entry)) i (withReadsOf (lay (slotAt (stateIn (now (s .entry))) i)) v) ⌝ }
+    requires { ⌜ lay (view (withReadsOf (recordAt (now s) i) v)) ≡ withReadsOf (recordAt (now s) i) v ⌝ }
+    ensures { λ r. ⌜ now (s .exit) ≡ storedWrites (now (s .entry)) i v ⌝ }
 {
     let at = area::slot_offset(s, i);
     packed::put_fields(s, at, STAMP, v);
@@ -48,8 +50,8 @@ pub fn store_writes(s: &mut [u8], i: u8, v: SlotRecord)
 // Stores slot `i` but for its write log, which stays, and the clock.
 pub fn store_reads_clock(s: &mut [u8], i: u8, v: SlotRecord, clock: u64)
     requires { ⌜ Good (now s) × (i < 8) ⌝ }
-    requires { ⌜ lay (view (withWritesOf (lay (slotAt (stateIn (now s)) i)) v)) ≡ withWritesOf (lay (slotAt (stateIn (now s)) i)) v ⌝ }
-    ensures { λ r. ⌜ now (s .exit) ≡ slotClockStored (now (s .entry)) i (withWritesOf (lay (slotAt (stateIn (now (s .entry))) i)) v) clock ⌝ }
+    requires { ⌜ lay (view (withWritesOf (recordAt (now s) i) v)) ≡ withWritesOf (recordAt (now s) i) v ⌝ }
+    ensures { λ r. ⌜ now (s .exit) ≡ storedReadsClock (now (s .entry)) i v clock ⌝ }
 {
     let at = area::slot_offset(s, i);
     packed::put_fields(s, at, STAMP, v);
@@ -60,8 +62,8 @@ pub fn store_reads_clock(s: &mut [u8], i: u8, v: SlotRecord, clock: u64)
 // Stores slot `i` but for its logs, which stay; a slot that turns idle is cleared throughout.
 pub fn store_fields(s: &mut [u8], i: u8, v: SlotRecord)
     requires { ⌜ Good (now s) × (i < 8) ⌝ }
-    requires { ⌜ lay (view (turnedTo (lay (slotAt (stateIn (now s)) i)) v)) ≡ turnedTo (lay (slotAt (stateIn (now s)) i)) v ⌝ }
-    ensures { λ r. ⌜ now (s .exit) ≡ slotStored (now (s .entry)) i (turnedTo (lay (slotAt (stateIn (now (s .entry))) i)) v) ⌝ }
+    requires { ⌜ lay (view (turnedTo (recordAt (now s) i) v)) ≡ turnedTo (recordAt (now s) i) v ⌝ }
+    ensures { λ r. ⌜ now (s .exit) ≡ storedFields (now (s .entry)) i v ⌝ }
 {
     let at = area::slot_offset(s, i);
     if v.phase == 0 {
@@ -74,8 +76,8 @@ pub fn store_fields(s: &mut [u8], i: u8, v: SlotRecord)
 // The same, and cell `c`.
 pub fn store_fields_cell(s: &mut [u8], i: u8, v: SlotRecord, c: u8, x: Cell)
     requires { ⌜ Good (now s) × (i < 8) × (c < countIn (now s)) ⌝ }
-    requires { ⌜ lay (view (turnedTo (lay (slotAt (stateIn (now s)) i)) v)) ≡ turnedTo (lay (slotAt (stateIn (now s)) i)) v ⌝ }
-    ensures { λ r. ⌜ now (s .exit) ≡ slotCellStored (now (s .entry)) i (turnedTo (lay (slotAt (stateIn (now (s .entry))) i)) v) c x ⌝ }
+    requires { ⌜ lay (view (turnedTo (recordAt (now s) i) v)) ≡ turnedTo (recordAt (now s) i) v ⌝ }
+    ensures { λ r. ⌜ now (s .exit) ≡ storedFieldsCell (now (s .entry)) i v c x ⌝ }
 {
     store_fields(s, i, v);
     put_cell(s, area::cell_offset(c), x);
@@ -84,8 +86,8 @@ pub fn store_fields_cell(s: &mut [u8], i: u8, v: SlotRecord, c: u8, x: Cell)
 // Stores slot `i` but for its logs, of which the read log gets one more entry, the last of `v`.
 pub fn store_read(s: &mut [u8], i: u8, v: SlotRecord)
     requires { ⌜ Good (now s) × (i < 8) × (1 ≤ v .readcount) × (v .readcount ≤ readCapacity) ⌝ }
-    requires { ⌜ lay (view (withLast (lay (slotAt (stateIn (now s)) i)) v)) ≡ withLast (lay (slotAt (stateIn (now s)) i)) v ⌝ }
-    ensures { λ r. ⌜ now (s .exit) ≡ slotStored (now (s .entry)) i (withLast (lay (slotAt (stateIn (now (s .entry))) i)) v) ⌝ }
+    requires { ⌜ lay (view (withLast (recordAt (now s) i) v)) ≡ withLast (recordAt (now s) i) v ⌝ }
+    ensures { λ r. ⌜ now (s .exit) ≡ storedRead (now (s .entry)) i v ⌝ }
 {
     let at = area::slot_offset(s, i);
     let last = (v.readcount - 1) as usize;
@@ -119,7 +121,7 @@ fn free_cells(s: &mut [u8], i: u8)
 // Clears slot `i` throughout, with all cells freed that it holds.
 pub fn store_freed(s: &mut [u8], i: u8)
     requires { ⌜ Good (now s) × (i < 8) ⌝ }
-    ensures { λ r. ⌜ now (s .exit) ≡ slotFreedStored (now (s .entry)) i empty ⌝ }
+    ensures { λ r. ⌜ now (s .exit) ≡ storedFreed (now (s .entry)) i ⌝ }
 {
     let at = area::slot_offset(s, i);
     free_cells(s, i);

@@ -122,17 +122,17 @@ loop-again c =
 
 returns : tie.Need-returns Inv-loop μ-loop
 returns c =
-    let start′ = let c : tie.Start Inv-loop μ-loop = search in c in
+    let start = let c : tie.Start Inv-loop μ-loop = search in c in
     let fields-at = let c : tie.After-fields-at Inv-loop μ-loop = search in c .fields-at .ensures in
     let loop-k = let c : tie.At-loop Inv-loop μ-loop = search in c .loop .k in
     let loop-inv = let c : tie.At-loop Inv-loop μ-loop = search in c .loop .inv in
-    let S = stateIn (start′ .args .s .now) in
-    let v = lay (slotAt S (start′ .args .i)) in
+    let S = stateIn (start .args .s .now) in
+    let v = lay (slotAt S (start .args .i)) in
     let count = ap (λ (u : SlotRecord). u .readcount) fields-at in
-    let logged = logged-of (start′ .args .s .now) (start′ .pre .0) (start′ .args .i) (start′ .pre .1) v refl in
-    let start = ap (λ (u : SlotRecord). u .start) fields-at in
+    let logged = logged-of (start .args .s .now) (start .pre .0) (start .args .i) (start .pre .1) v refl in
+    let began = ap (λ (u : SlotRecord). u .start) fields-at in
     let all : loop-k ≡ v .readcount = omega arith in
-    (loop-inv .1) ∙ (λ j. filled (withMark S (start′ .args .i) (start j)) noRead (v .reads) (all j))
+    (loop-inv .1) ∙ (λ j. filled (withMark S (start .args .i) (began j)) noRead (v .reads) (all j))
 
 pub marked-reads-spec : {M : Type 1} → statement M
 marked-reads-spec =

@@ -27,14 +27,13 @@ same-length c = search needs
 
 returns : tie.Need-returns
 returns c =
-    let start′ = let c : tie.After-put-header = search in let c : tie.Start = search in c in
+    let start = let c : tie.After-put-header = search in let c : tie.Start = search in c in
     let put-header-last = let c : tie.After-put-header = search in c .put-header .last in
     let put-header-ensures = let c : tie.After-put-header = search in c .put-header .ensures in
     let put-described-last = let c : tie.After-put-described = search in c .put-described .last in
     let put-described-ensures = let c : tie.After-put-described = search in c .put-described .ensures in
     let put-idle-last = let c : tie.After-put-idle = search in c .put-idle .last in
     let put-idle-ensures = let c : tie.After-put-idle = search in c .put-idle .ensures in
-    let start = start′ in
     laid-out (start .args .ds .now) (start .args .n) (start .args .s .now) (put-header-last .0) (put-described-last .0) (put-idle-last .0)
     (start .pre .0) (start .pre .2) put-header-ensures put-described-ensures put-idle-ensures
 
