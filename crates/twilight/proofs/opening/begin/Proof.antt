@@ -31,16 +31,25 @@ begun-requires c κs = search needs
 
 store-fields-requires : tie.Need-store-fields-requires
 store-fields-requires c κs =
-    let idle = empty-phase (slotAt (stateOf controller (c .before .before .before .before .before .before .before .before .args .s .now)) (c .before .before .before .before .before .before .before .before .args .i)) (same (c .before .before .before .before .before .phase-at .ensures) (c .before .before .before .before .if1 .left)) in
-    (((c .before .before .before .before .before .before .before .before .pre .0), (c .before .before .before .before .before .before .before .before .pre .1)), storable (begun-next _ (begun-fields _ _ idle (c .begun .ensures))))
+    let start = let c : tie.Start = search in c in
+    let phase-at = let c : tie.After-phase-at = search in c .phase-at .ensures in
+    let if1 = let c : tie.Else1 = search in c .if1 .left in
+    let idle = empty-phase (slotAt (stateOf controller (start .args .s .now)) (start .args .i)) (same phase-at if1) in
+    (((start .pre .0), (start .pre .1)), storable (begun-next _ (begun-fields _ _ idle (c .begun .ensures))))
 
 same-length-2 : tie.Need-same-length-2
 same-length-2 c = search needs
 
 returns-2 : tie.Need-returns-2
 returns-2 c =
-    let idle = empty-phase (slotAt (stateOf controller (c .before .before .before .before .before .before .before .before .before .before .before .args .s .now)) (c .before .before .before .before .before .before .before .before .before .before .before .args .i)) (same (c .before .before .before .before .before .before .before .before .phase-at .ensures) (c .before .before .before .before .before .before .before .if1 .left)) in
-    stored _ _ _ (begin-0 controller _ _ _ refl (same (c .before .before .before .before .before .before .before .before .phase-at .ensures) (c .before .before .before .before .before .before .before .if1 .left)) (c .before .before .before .before .before .clock .ensures)) (begun-next _ (begun-fields _ _ idle (c .before .before .before .begun .ensures))) (c .before .before .store-fields .ensures)
+    let start = let c : tie.Start = search in c in
+    let phase-at = let c : tie.After-phase-at = search in c .phase-at .ensures in
+    let if1 = let c : tie.Else1 = search in c .if1 .left in
+    let clock = let c : tie.After-clock = search in c .clock .ensures in
+    let begun = let c : tie.After-begun = search in c .begun .ensures in
+    let store-fields = let c : tie.After-store-fields = search in c .store-fields .ensures in
+    let idle = empty-phase (slotAt (stateOf controller (start .args .s .now)) (start .args .i)) (same phase-at if1) in
+    stored _ _ _ (begin-0 controller _ _ _ refl (same phase-at if1) clock) (begun-next _ (begun-fields _ _ idle begun)) store-fields
 
 pub begin-spec : {M : Type 1} → statement M
 begin-spec =

@@ -29,17 +29,27 @@ closed-requires c κs = search needs
 
 store-fields-requires : tie.Need-store-fields-requires
 store-fields-requires c κs =
-    let k = known (c .before .before .before .before .before .before .before .before .pre .0) (c .before .before .before .before .before .before .before .before .pre .1) refl in
-    (((c .before .before .before .before .before .before .before .before .pre .0), (c .before .before .before .before .before .before .before .before .pre .1)), storable (closed-next k (same (c .before .before .before .before .before .phase-at .ensures) (c .before .before .before .before .if1 .left)) (closed-fields _ (c .before .before .fields-at .ensures) (c .closed .ensures))))
+    let start = let c : tie.Start = search in c in
+    let phase-at = let c : tie.After-phase-at = search in c .phase-at .ensures in
+    let if1 = let c : tie.Else1 = search in c .if1 .left in
+    let fields-at = let c : tie.After-fields-at = search in c .fields-at .ensures in
+    let k = known (start .pre .0) (start .pre .1) refl in
+    (((start .pre .0), (start .pre .1)), storable (closed-next k (same phase-at if1) (closed-fields _ fields-at (c .closed .ensures))))
 
 same-length-2 : tie.Need-same-length-2
 same-length-2 c = search needs
 
 returns-2 : tie.Need-returns-2
 returns-2 c =
-    let k = known (c .before .before .before .before .before .before .before .before .before .before .before .pre .0) (c .before .before .before .before .before .before .before .before .before .before .before .pre .1) refl in
-    let p = same (c .before .before .before .before .before .before .before .before .phase-at .ensures) (c .before .before .before .before .before .before .before .if1 .left) in
-    stored _ _ _ (close-0 controller _ _ _ refl p) (closed-next k p (closed-fields _ (c .before .before .before .before .before .fields-at .ensures) (c .before .before .before .closed .ensures))) (c .before .before .store-fields .ensures)
+    let start = let c : tie.Start = search in c in
+    let phase-at = let c : tie.After-phase-at = search in c .phase-at .ensures in
+    let if1 = let c : tie.Else1 = search in c .if1 .left in
+    let fields-at = let c : tie.After-fields-at = search in c .fields-at .ensures in
+    let closed = let c : tie.After-closed = search in c .closed .ensures in
+    let store-fields = let c : tie.After-store-fields = search in c .store-fields .ensures in
+    let k = known (start .pre .0) (start .pre .1) refl in
+    let p = same phase-at if1 in
+    stored _ _ _ (close-0 controller _ _ _ refl p) (closed-next k p (closed-fields _ fields-at closed)) store-fields
 
 pub close-spec : {M : Type 1} → statement M
 close-spec =

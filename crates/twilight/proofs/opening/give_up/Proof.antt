@@ -23,7 +23,9 @@ same-length-2 : tie.Need-same-length-2
 same-length-2 c = search needs
 
 returns-2 : tie.Need-returns-2
-returns-2 c = refuses _ (give-up-publishing controller _ _ _ refl (same (c .before .before .phase-at .ensures) (c .if2 .taken)))
+returns-2 c =
+    let phase-at = let c : tie.After-phase-at = search in c .phase-at .ensures in
+    refuses _ (give-up-publishing controller _ _ _ refl (same phase-at (c .if2 .taken)))
 
 store-freed-requires : tie.Need-store-freed-requires
 store-freed-requires c κs = search needs
@@ -32,7 +34,12 @@ same-length-3 : tie.Need-same-length-3
 same-length-3 c = search needs
 
 returns-3 : tie.Need-returns-3
-returns-3 c = stored _ _ _ (give-up-0 controller _ _ _ refl (other (c .before .before .before .before .before .before .phase-at .ensures) (c .before .before .before .before .before .if1 .left)) (other (c .before .before .before .before .before .before .phase-at .ensures) (c .before .before .before .before .if2 .left))) (empty-next refl) (c .before .before .store-freed .ensures)
+returns-3 c =
+    let phase-at = let c : tie.After-phase-at = search in c .phase-at .ensures in
+    let if1 = let c : tie.Else1 = search in c .if1 .left in
+    let if2 = let c : tie.Else2 = search in c .if2 .left in
+    let store-freed = let c : tie.After-store-freed = search in c .store-freed .ensures in
+    stored _ _ _ (give-up-0 controller _ _ _ refl (other phase-at if1) (other phase-at if2)) (empty-next refl) store-freed
 
 pub give-up-spec : {M : Type 1} → statement M
 give-up-spec =

@@ -25,13 +25,21 @@ same-length-2 : tie.Need-same-length-2
 same-length-2 c = search needs
 
 returns-2 : tie.Need-returns-2
-returns-2 c = refuses _ (illegal-write-5 controller _ _ _ refl (same (c .before .before .before .before .phase-at .ensures) (c .before .before .before .if1 .left)) _ (omega (arith, (c .before .count .ensures))))
+returns-2 c =
+    let phase-at = let c : tie.After-phase-at = search in c .phase-at .ensures in
+    let if1 = let c : tie.Else1 = search in c .if1 .left in
+    let count = let c : tie.After-count = search in c .count .ensures in
+    refuses _ (illegal-write-5 controller _ _ _ refl (same phase-at if1) _ (omega (arith, count)))
 
 same-length-3 : tie.Need-same-length-3
 same-length-3 c = search needs
 
 returns-3 : tie.Need-returns-3
-returns-3 c = refuses _ (illegal-write-6 controller _ _ _ refl (same (c .before .before .before .before .phase-at .ensures) (c .before .before .before .if1 .left)) _ (omega (arith, (c .before .count .ensures))))
+returns-3 c =
+    let phase-at = let c : tie.After-phase-at = search in c .phase-at .ensures in
+    let if1 = let c : tie.Else1 = search in c .if1 .left in
+    let count = let c : tie.After-count = search in c .count .ensures in
+    refuses _ (illegal-write-6 controller _ _ _ refl (same phase-at if1) _ (omega (arith, count)))
 
 pub illegal-write-spec : {M : Type 1} → statement M
 illegal-write-spec =

@@ -23,8 +23,10 @@ cast-if1 c = search needs
 
 returns : tie.Need-returns
 returns c =
-    let v = lay (slotAt (stateOf controller (c .before .before .before .before .args .s .now)) (c .before .before .before .before .args .i)) in
-    let f = fields v (c .before .before .fields-at .ensures) in
+    let start = let c : tie.Start = search in c in
+    let fields-at = let c : tie.After-fields-at = search in c .fields-at .ensures in
+    let v = lay (slotAt (stateOf controller (start .args .s .now)) (start .args .i)) in
+    let f = fields v fields-at in
     let room : v .writecount < writeCapacity = omega (arith, (c .if1 .taken)) in
     rw (lt-leb writeCapacity (v .writecount) room, and-false)
 
@@ -39,15 +41,21 @@ enum-told-2 c = search needs
 
 returns-2 : tie.Need-returns-2
 unfolding _and_
-returns-2 c = rw (cell-found _ _ _ (write-sought _ (c .before .before .find-write .ensures) (c .enum-told .given .1)))
+returns-2 c =
+    let find-write = let c : tie.After-find-write = search in c .find-write .ensures in
+    rw (cell-found _ _ _ (write-sought _ find-write (c .enum-told .given .1)))
 
 returns-3 : tie.Need-returns-3
 unfolding _and_
 returns-3 c =
-    let v = lay (slotAt (stateOf controller (c .before .before .before .before .before .before .before .args .s .now)) (c .before .before .before .before .before .before .before .args .i)) in
-    let f = fields v (c .before .before .before .before .before .fields-at .ensures) in
-    let full : writeCapacity ≤ v .writecount = omega (arith, (c .before .before .before .if1 .left)) in
-    rw (cell-missing _ _ (write-sought _ (c .before .before .find-write .ensures) (c .enum-told2 .given .1)), le-leb writeCapacity (v .writecount) full)
+    let start = let c : tie.Start = search in c in
+    let fields-at = let c : tie.After-fields-at = search in c .fields-at .ensures in
+    let if1 = let c : tie.Else1 = search in c .if1 .left in
+    let find-write = let c : tie.After-find-write = search in c .find-write .ensures in
+    let v = lay (slotAt (stateOf controller (start .args .s .now)) (start .args .i)) in
+    let f = fields v fields-at in
+    let full : writeCapacity ≤ v .writecount = omega (arith, if1) in
+    rw (cell-missing _ _ (write-sought _ find-write (c .enum-told2 .given .1)), le-leb writeCapacity (v .writecount) full)
 
 pub no-room-spec : {M : Type 1} → statement M
 no-room-spec =

@@ -27,10 +27,17 @@ same-length-2 : tie.Need-same-length-2
 same-length-2 c = search needs
 
 returns-2 : tie.Need-returns-2
-returns-2 c = refuses _ (read-5 controller _ _ _ refl (same (c .before .before .before .before .phase-at .ensures) (c .before .before .before .if1 .left)) _ (omega (arith, (c .before .count .ensures))))
+returns-2 c =
+    let phase-at = let c : tie.After-phase-at = search in c .phase-at .ensures in
+    let if1 = let c : tie.Else1 = search in c .if1 .left in
+    let count = let c : tie.After-count = search in c .count .ensures in
+    refuses _ (read-5 controller _ _ _ refl (same phase-at if1) _ (omega (arith, count)))
 
 cell-at-requires : tie.Need-cell-at-requires
-cell-at-requires c κs = ((c .before .before .before .before .before .before .before .before .pre .0), rw (← count-read controller _) (omega (arith, (c .before .before .count .ensures))))
+cell-at-requires c κs =
+    let start = let c : tie.Start = search in c in
+    let count = let c : tie.After-count = search in c .count .ensures in
+    ((start .pre .0), rw (← count-read controller _) (omega (arith, count)))
 
 find-write-requires : tie.Need-find-write-requires
 find-write-requires c κs = search needs
@@ -46,8 +53,15 @@ same-length-3 c = search needs
 
 returns-3 : tie.Need-returns-3
 returns-3 c =
-    keeps _ (c .before .before .before .before .before .before .before .before .before .before .before .before .before .before .before .pre .0)
-    (read-written controller _ _ _ refl (same (c .before .before .before .before .before .before .before .before .before .before .before .before .phase-at .ensures) (c .before .before .before .before .before .before .before .before .before .before .before .if1 .left)) _ (omega (arith, (c .before .before .before .before .before .before .before .before .before .count .ensures))) _ (c .before .before .before .before .before .before .cell-at .ensures) _ (write-sought _ (c .before .before .before .before .find-write .ensures) (c .before .before .e .given .1)) (c .value-of .ensures))
+    let start = let c : tie.After-phase-at = search in let c : tie.Start = search in c in
+    let phase-at = let c : tie.After-phase-at = search in c .phase-at .ensures in
+    let if1 = let c : tie.Else1 = search in c .if1 .left in
+    let count = let c : tie.After-count = search in c .count .ensures in
+    let cell-at = let c : tie.After-cell-at = search in c .cell-at .ensures in
+    let find-write = let c : tie.After-find-write = search in c .find-write .ensures in
+    let e = let c : tie.After-e = search in c .e .given in
+    keeps _ (start .pre .0)
+    (read-written controller _ _ _ refl (same phase-at if1) _ (omega (arith, count)) _ cell-at _ (write-sought _ find-write (e .1)) (c .value-of .ensures))
 
 enum-told : tie.Need-enum-told
 enum-told c = search needs
@@ -66,23 +80,45 @@ same-length-4 c = search needs
 
 returns-4 : tie.Need-returns-4
 returns-4 c =
-    keeps _ (c .before .before .before .before .before .before .before .before .before .before .before .before .before .before .before .before .before .before .before .pre .0)
-    (read-logged controller _ _ _ refl (same (c .before .before .before .before .before .before .before .before .before .before .before .before .before .before .before .before .phase-at .ensures) (c .before .before .before .before .before .before .before .before .before .before .before .before .before .before .before .if1 .left)) _ (omega (arith, (c .before .before .before .before .before .before .before .before .before .before .before .before .before .count .ensures))) _ (c .before .before .before .before .before .before .before .before .before .before .cell-at .ensures) _ (write-sought _ (c .before .before .before .before .before .before .before .before .find-write .ensures) (c .before .before .before .before .before .before .enum-told .given .1))
-    (read-sought _ (c .before .before .before .before .find-read .ensures) (c .before .before .e2 .given .1)) (c .value-of2 .ensures))
+    let start = let c : tie.After-cell-at = search in let c : tie.Start = search in c in
+    let phase-at = let c : tie.After-cell-at = search in let c : tie.After-phase-at = search in c .phase-at .ensures in
+    let if1 = let c : tie.After-cell-at = search in let c : tie.Else1 = search in c .if1 .left in
+    let count = let c : tie.After-cell-at = search in let c : tie.After-count = search in c .count .ensures in
+    let cell-at = let c : tie.After-cell-at = search in c .cell-at .ensures in
+    let find-write = let c : tie.After-find-write = search in c .find-write .ensures in
+    let enum-told′ = let c : tie.After-enum-told = search in c .enum-told .given in
+    let find-read = let c : tie.After-find-read = search in c .find-read .ensures in
+    let e2 = let c : tie.After-e2 = search in c .e2 .given in
+    keeps _ (start .pre .0)
+    (read-logged controller _ _ _ refl (same phase-at if1) _ (omega (arith, count)) _ cell-at _ (write-sought _ find-write (enum-told′ .1))
+    (read-sought _ find-read (e2 .1)) (c .value-of2 .ensures))
 
 enum-told-2 : tie.Need-enum-told-2
 enum-told-2 c = search needs
 
 read-shared-requires : tie.Need-read-shared-requires
-read-shared-requires c κs = (((c .before .before .before .before .before .before .before .before .before .before .before .before .before .before .before .before .before .before .pre .0), (c .before .before .before .before .before .before .before .before .before .before .before .before .before .before .before .before .before .before .pre .1)), ((same (c .before .before .before .before .before .before .before .before .before .before .before .before .before .before .before .phase-at .ensures) (c .before .before .before .before .before .before .before .before .before .before .before .before .before .before .if1 .left)), (c .before .before .before .before .before .before .before .before .before .cell-at .ensures)))
+read-shared-requires c κs =
+    let start = let c : tie.After-cell-at = search in let c : tie.Start = search in c in
+    let phase-at = let c : tie.After-cell-at = search in let c : tie.After-phase-at = search in c .phase-at .ensures in
+    let if1 = let c : tie.After-cell-at = search in let c : tie.Else1 = search in c .if1 .left in
+    let cell-at = let c : tie.After-cell-at = search in c .cell-at .ensures in
+    (((start .pre .0), (start .pre .1)), ((same phase-at if1), cell-at))
 
 same-length-5 : tie.Need-same-length-5
 same-length-5 c = search needs
 
 returns-5 : tie.Need-returns-5
 returns-5 c =
-    onward (read-shared controller _ _ _ refl (same (c .before .before .before .before .before .before .before .before .before .before .before .before .before .before .before .before .before .before .phase-at .ensures) (c .before .before .before .before .before .before .before .before .before .before .before .before .before .before .before .before .before .if1 .left)) _ (omega (arith, (c .before .before .before .before .before .before .before .before .before .before .before .before .before .before .before .count .ensures))) (write-sought _ (c .before .before .before .before .before .before .before .before .before .before .find-write .ensures) (c .before .before .before .before .before .before .before .before .enum-told .given .1))
-    (read-sought _ (c .before .before .before .before .before .before .find-read .ensures) (c .before .before .before .before .enum-told2 .given .1))) (c .before .before .read-shared .ensures)
+    let phase-at = let c : tie.After-find-write = search in let c : tie.After-phase-at = search in c .phase-at .ensures in
+    let if1 = let c : tie.After-find-write = search in let c : tie.Else1 = search in c .if1 .left in
+    let count = let c : tie.After-find-write = search in let c : tie.After-count = search in c .count .ensures in
+    let find-write = let c : tie.After-find-write = search in c .find-write .ensures in
+    let enum-told′ = let c : tie.After-enum-told = search in c .enum-told .given in
+    let find-read = let c : tie.After-find-read = search in c .find-read .ensures in
+    let enum-told2 = let c : tie.After-enum-told2 = search in c .enum-told2 .given in
+    let read-shared′ = let c : tie.After-read-shared = search in c .read-shared .ensures in
+    onward (read-shared controller _ _ _ refl (same phase-at if1) _ (omega (arith, count)) (write-sought _ find-write (enum-told′ .1))
+    (read-sought _ find-read (enum-told2 .1))) read-shared′
 
 pub read-spec : {M : Type 1} → statement M
 read-spec =

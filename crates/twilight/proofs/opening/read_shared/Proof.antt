@@ -29,8 +29,10 @@ same-length c = search needs
 
 returns : tie.Need-returns
 returns c =
-    let v = lay (slotAt (stateOf controller (c .before .before .before .before .before .args .s .now)) (c .before .before .before .before .before .args .i)) in
-    let f = fields v (c .before .before .fields-at .ensures) in
+    let start = let c : tie.Start = search in c in
+    let fields-at = let c : tie.After-fields-at = search in c .fields-at .ensures in
+    let v = lay (slotAt (stateOf controller (start .args .s .now)) (start .args .i)) in
+    let f = fields v fields-at in
     let full : readCapacity ≤ v .readcount = omega (arith, (c .if1 .taken)) in
     refuses _ (shared-9 controller _ _ _ refl _ full)
 
@@ -42,34 +44,46 @@ same-length-2 c = search needs
 
 returns-2 : tie.Need-returns-2
 returns-2 c =
-    let v = lay (slotAt (stateOf controller (c .before .before .before .before .before .before .before .args .s .now)) (c .before .before .before .before .before .before .before .args .i)) in
-    let f = fields v (c .before .before .before .before .fields-at .ensures) in
-    let room : v .readcount < readCapacity = omega (arith, (c .before .before .if1 .left)) in
-    refuses _ (shared-held controller _ _ _ refl _ room _ (c .before .before .before .before .before .before .before .pre .1 .1) (c .before .held-by-other .ensures) (c .if2 .taken))
+    let start = let c : tie.Start = search in c in
+    let fields-at = let c : tie.After-fields-at = search in c .fields-at .ensures in
+    let if1 = let c : tie.Else1 = search in c .if1 .left in
+    let held-by-other = let c : tie.After-held-by-other = search in c .held-by-other .ensures in
+    let v = lay (slotAt (stateOf controller (start .args .s .now)) (start .args .i)) in
+    let f = fields v fields-at in
+    let room : v .readcount < readCapacity = omega (arith, if1) in
+    refuses _ (shared-held controller _ _ _ refl _ room _ (start .pre .1 .1) held-by-other (c .if2 .taken))
 
 same-length-3 : tie.Need-same-length-3
 same-length-3 c = search needs
 
 returns-3 : tie.Need-returns-3
 returns-3 c =
-    let v = lay (slotAt (stateOf controller (c .before .before .before .before .before .before .before .before .before .before .args .s .now)) (c .before .before .before .before .before .before .before .before .before .before .args .i)) in
-    let f = fields v (c .before .before .before .before .before .before .before .fields-at .ensures) in
-    let room : v .readcount < readCapacity = omega (arith, (c .before .before .before .before .before .if1 .left)) in
-    let newer : v .start < (c .before .before .before .before .before .before .before .before .before .before .args .x) .stamp = omega (arith, (c .if3 .taken)) in
-    refuses _ (shared-newer controller _ _ _ refl _ room _ (c .before .before .before .before .before .before .before .before .before .before .pre .1 .1) (c .before .before .before .before .held-by-other .ensures) (c .before .before .before .if2 .left) newer)
+    let start = let c : tie.Start = search in c in
+    let fields-at = let c : tie.After-fields-at = search in c .fields-at .ensures in
+    let if1 = let c : tie.Else1 = search in c .if1 .left in
+    let held-by-other = let c : tie.After-held-by-other = search in c .held-by-other .ensures in
+    let if2 = let c : tie.Else2 = search in c .if2 .left in
+    let v = lay (slotAt (stateOf controller (start .args .s .now)) (start .args .i)) in
+    let f = fields v fields-at in
+    let room : v .readcount < readCapacity = omega (arith, if1) in
+    let newer : v .start < (start .args .x) .stamp = omega (arith, (c .if3 .taken)) in
+    refuses _ (shared-newer controller _ _ _ refl _ room _ (start .pre .1 .1) held-by-other if2 newer)
 
 joined-requires : tie.Need-joined-requires
 joined-requires c κs = search needs
 
 store-read-requires : tie.Need-store-read-requires
 store-read-requires c κs =
-    let v = lay (slotAt (stateOf controller (c .before .before .before .before .before .before .before .before .before .before .before .before .args .s .now)) (c .before .before .before .before .before .before .before .before .before .before .before .before .args .i)) in
-    let f = fields v (c .before .before .before .before .before .before .before .before .before .fields-at .ensures) in
-    let room : v .readcount < readCapacity = omega (arith, (c .before .before .before .before .before .before .before .if1 .left)) in
-    let k = known (c .before .before .before .before .before .before .before .before .before .before .before .before .pre .0 .0) (c .before .before .before .before .before .before .before .before .before .before .before .before .pre .0 .1) refl in
+    let start = let c : tie.Start = search in c in
+    let fields-at = let c : tie.After-fields-at = search in c .fields-at .ensures in
+    let if1 = let c : tie.Else1 = search in c .if1 .left in
+    let v = lay (slotAt (stateOf controller (start .args .s .now)) (start .args .i)) in
+    let f = fields v fields-at in
+    let room : v .readcount < readCapacity = omega (arith, if1) in
+    let k = known (start .pre .0 .0) (start .pre .0 .1) refl in
     let next = (c .joined .ensures) in
     let count = ap (λ (u : SlotRecord). u .readcount) next in
-    (((c .before .before .before .before .before .before .before .before .before .before .before .before .pre .0 .0), (c .before .before .before .before .before .before .before .before .before .before .before .before .pre .0 .1), omega arith, omega arith), storable (joined-next k (c .before .before .before .before .before .before .before .before .before .before .before .before .pre .1 .0) _ room (joined-fields v (c .before .before .before .before .before .before .before .before .before .fields-at .ensures) _ room next)))
+    (((start .pre .0 .0), (start .pre .0 .1), omega arith, omega arith), storable (joined-next k (start .pre .1 .0) _ room (joined-fields v fields-at _ room next)))
 
 value-of-requires : tie.Need-value-of-requires
 value-of-requires c κs = search needs
@@ -79,13 +93,21 @@ same-length-4 c = search needs
 
 returns-4 : tie.Need-returns-4
 returns-4 c =
-    let v = lay (slotAt (stateOf controller (c .before .before .before .before .before .before .before .before .before .before .before .before .before .before .before .before .args .s .now)) (c .before .before .before .before .before .before .before .before .before .before .before .before .before .before .before .before .args .i)) in
-    let f = fields v (c .before .before .before .before .before .before .before .before .before .before .before .before .before .fields-at .ensures) in
-    let room : v .readcount < readCapacity = omega (arith, (c .before .before .before .before .before .before .before .before .before .before .before .if1 .left)) in
-    let k = known (c .before .before .before .before .before .before .before .before .before .before .before .before .before .before .before .before .pre .0 .0) (c .before .before .before .before .before .before .before .before .before .before .before .before .before .before .before .before .pre .0 .1) refl in
-    let older : (c .before .before .before .before .before .before .before .before .before .before .before .before .before .before .before .before .args .x) .stamp ≤ v .start = omega (arith, (c .before .before .before .before .before .before .if3 .left)) in
-    stored _ _ _ (shared-0 controller _ _ _ refl _ room _ (c .before .before .before .before .before .before .before .before .before .before .before .before .before .before .before .before .pre .1 .1) (c .before .before .before .before .before .before .before .before .before .before .held-by-other .ensures) (c .before .before .before .before .before .before .before .before .before .if2 .left) older (c .value-of .ensures))
-    (joined-next k (c .before .before .before .before .before .before .before .before .before .before .before .before .before .before .before .before .pre .1 .0) _ room (joined-fields v (c .before .before .before .before .before .before .before .before .before .before .before .before .before .fields-at .ensures) _ room (c .before .before .before .before .joined .ensures))) (c .before .before .before .store-read .ensures)
+    let start = let c : tie.Else1 = search in let c : tie.Start = search in c in
+    let fields-at = let c : tie.Else1 = search in let c : tie.After-fields-at = search in c .fields-at .ensures in
+    let if1 = let c : tie.Else1 = search in c .if1 .left in
+    let held-by-other = let c : tie.After-held-by-other = search in c .held-by-other .ensures in
+    let if2 = let c : tie.Else2 = search in c .if2 .left in
+    let if3 = let c : tie.Else3 = search in c .if3 .left in
+    let joined = let c : tie.After-joined = search in c .joined .ensures in
+    let store-read = let c : tie.After-store-read = search in c .store-read .ensures in
+    let v = lay (slotAt (stateOf controller (start .args .s .now)) (start .args .i)) in
+    let f = fields v fields-at in
+    let room : v .readcount < readCapacity = omega (arith, if1) in
+    let k = known (start .pre .0 .0) (start .pre .0 .1) refl in
+    let older : (start .args .x) .stamp ≤ v .start = omega (arith, if3) in
+    stored _ _ _ (shared-0 controller _ _ _ refl _ room _ (start .pre .1 .1) held-by-other if2 older (c .value-of .ensures))
+    (joined-next k (start .pre .1 .0) _ room (joined-fields v fields-at _ room joined)) store-read
 
 pub read-shared-spec : {M : Type 1} → statement M
 read-shared-spec =

@@ -24,7 +24,11 @@ same-length-2 : tie.Need-same-length-2
 same-length-2 c = search needs
 
 returns-2 : tie.Need-returns-2
-returns-2 c = refuses _ (ask-5 controller _ _ _ refl (same (c .before .before .before .before .phase-at .ensures) (c .before .before .before .if1 .left)) (c .before .count .ensures) (c .if2 .taken))
+returns-2 c =
+    let phase-at = let c : tie.After-phase-at = search in c .phase-at .ensures in
+    let if1 = let c : tie.Else1 = search in c .if1 .left in
+    let count = let c : tie.After-count = search in c .count .ensures in
+    refuses _ (ask-5 controller _ _ _ refl (same phase-at if1) count (c .if2 .taken))
 
 find-read-requires : tie.Need-find-read-requires
 find-read-requires c κs = search needs
@@ -39,13 +43,27 @@ same-length-3 : tie.Need-same-length-3
 same-length-3 c = search needs
 
 returns-3 : tie.Need-returns-3
-returns-3 c = refuses _ (ask-8 controller _ _ _ refl (same (c .before .before .before .before .before .before .before .before .phase-at .ensures) (c .before .before .before .before .before .before .before .if1 .left)) (c .before .before .before .before .before .count .ensures) (c .before .before .before .before .if2 .left) (c .before .before .find-read .ensures) (c .enum-told .given .1))
+returns-3 c =
+    let phase-at = let c : tie.After-phase-at = search in c .phase-at .ensures in
+    let if1 = let c : tie.Else1 = search in c .if1 .left in
+    let count = let c : tie.After-count = search in c .count .ensures in
+    let if2 = let c : tie.Else2 = search in c .if2 .left in
+    let find-read = let c : tie.After-find-read = search in c .find-read .ensures in
+    refuses _ (ask-8 controller _ _ _ refl (same phase-at if1) count if2 find-read (c .enum-told .given .1))
 
 same-length-4 : tie.Need-same-length-4
 same-length-4 c = search needs
 
 returns-4 : tie.Need-returns-4
-returns-4 c = keeps _ (c .before .before .before .before .before .before .before .before .before .before .before .before .pre .0) (ask-0 controller _ _ _ refl (same (c .before .before .before .before .before .before .before .before .before .phase-at .ensures) (c .before .before .before .before .before .before .before .before .if1 .left)) (c .before .before .before .before .before .before .count .ensures) (c .before .before .before .before .before .if2 .left) (c .before .before .before .find-read .ensures) (c .before .e .given .1))
+returns-4 c =
+    let start = let c : tie.Start = search in c in
+    let phase-at = let c : tie.After-phase-at = search in c .phase-at .ensures in
+    let if1 = let c : tie.Else1 = search in c .if1 .left in
+    let count = let c : tie.After-count = search in c .count .ensures in
+    let if2 = let c : tie.Else2 = search in c .if2 .left in
+    let find-read = let c : tie.After-find-read = search in c .find-read .ensures in
+    let e = let c : tie.After-e = search in c .e .given in
+    keeps _ (start .pre .0) (ask-0 controller _ _ _ refl (same phase-at if1) count if2 find-read (e .1))
 
 pub ask-spec : {M : Type 1} → statement M
 ask-spec =

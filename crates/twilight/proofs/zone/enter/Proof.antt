@@ -34,11 +34,15 @@ same-length-2 c = search needs
 
 returns-2 : tie.Need-returns-2
 returns-2 c =
-    let S = stateIn (c .before .before .before .before .before .before .before .before .args .s .now) in
-    let v = lay (slotAt S (c .before .before .before .before .before .before .before .before .args .i)) in
-    let f = fields v (c .before .before .fields-at .ensures) in
+    let start = let c : tie.Start = search in c in
+    let phase-at = let c : tie.After-phase-at = search in c .phase-at .ensures in
+    let if1 = let c : tie.Else1 = search in c .if1 .left in
+    let fields-at = let c : tie.After-fields-at = search in c .fields-at .ensures in
+    let S = stateIn (start .args .s .now) in
+    let v = lay (slotAt S (start .args .i)) in
+    let f = fields v fields-at in
     let missing : v .taken < v .writecount = omega (arith, (c .if2 .taken)) in
-    refuses _ (enter-missing controller _ _ refl (same (c .before .before .before .before .before .phase-at .ensures) (c .before .before .before .before .if1 .left)) missing)
+    refuses _ (enter-missing controller _ _ refl (same phase-at if1) missing)
 
 clock-requires : tie.Need-clock-requires
 clock-requires c κs = search needs
@@ -48,11 +52,17 @@ same-length-3 c = search needs
 
 returns-3 : tie.Need-returns-3
 returns-3 c =
-    let S = stateIn (c .before .before .before .before .before .before .before .before .before .before .before .args .s .now) in
-    let v = lay (slotAt S (c .before .before .before .before .before .before .before .before .before .before .before .args .i)) in
-    let f = fields v (c .before .before .before .before .before .fields-at .ensures) in
-    let taken : v .writecount ≤ v .taken = omega (arith, (c .before .before .before .if2 .left)) in
-    refuses _ (enter-12 controller _ _ refl (same (c .before .before .before .before .before .before .before .before .phase-at .ensures) (c .before .before .before .before .before .before .before .if1 .left)) taken (c .before .clock .ensures) (c .if3 .taken))
+    let start = let c : tie.Start = search in c in
+    let phase-at = let c : tie.After-phase-at = search in c .phase-at .ensures in
+    let if1 = let c : tie.Else1 = search in c .if1 .left in
+    let fields-at = let c : tie.After-fields-at = search in c .fields-at .ensures in
+    let if2 = let c : tie.Else2 = search in c .if2 .left in
+    let clock = let c : tie.After-clock = search in c .clock .ensures in
+    let S = stateIn (start .args .s .now) in
+    let v = lay (slotAt S (start .args .i)) in
+    let f = fields v fields-at in
+    let taken : v .writecount ≤ v .taken = omega (arith, if2) in
+    refuses _ (enter-12 controller _ _ refl (same phase-at if1) taken clock (c .if3 .taken))
 
 add-commit : tie.Need-add-commit
 add-commit c = search needs
@@ -65,11 +75,17 @@ entered-requires c κs = search needs
 
 store-reads-clock-requires : tie.Need-store-reads-clock-requires
 store-reads-clock-requires c κs =
-    let S = stateIn (c .before .before .before .before .before .before .before .before .before .before .before .before .before .before .before .args .s .now) in
-    let v = lay (slotAt S (c .before .before .before .before .before .before .before .before .before .before .before .before .before .before .before .args .i)) in
-    let f = fields v (c .before .before .before .before .before .before .before .before .before .fields-at .ensures) in
-    let kept = entered-stands (slotAt S (c .before .before .before .before .before .before .before .before .before .before .before .before .before .before .before .args .i)) v refl (withMark S (c .before .before .before .before .before .before .before .before .before .before .before .before .before .before .before .args .i) (v .start)) (c .before .before .marked-reads .ensures) (same (c .before .before .before .before .before .before .before .before .before .before .before .before .phase-at .ensures) (c .before .before .before .before .before .before .before .before .before .before .before .if1 .left)) (entered-alone v (c .before .before .before .before .before .before .before .before .before .fields-at .ensures) (c .before .entered .ensures)) .kept in
-    (((c .before .before .before .before .before .before .before .before .before .before .before .before .before .before .before .pre .0), (c .before .before .before .before .before .before .before .before .before .before .before .before .before .before .before .pre .1)), kept)
+    let start = let c : tie.After-phase-at = search in let c : tie.Start = search in c in
+    let phase-at = let c : tie.After-phase-at = search in c .phase-at .ensures in
+    let if1 = let c : tie.Else1 = search in c .if1 .left in
+    let fields-at = let c : tie.After-fields-at = search in c .fields-at .ensures in
+    let marked-reads = let c : tie.After-marked-reads = search in c .marked-reads .ensures in
+    let entered = let c : tie.After-entered = search in c .entered .ensures in
+    let S = stateIn (start .args .s .now) in
+    let v = lay (slotAt S (start .args .i)) in
+    let f = fields v fields-at in
+    let kept = entered-stands (slotAt S (start .args .i)) v refl (withMark S (start .args .i) (v .start)) marked-reads (same phase-at if1) (entered-alone v fields-at entered) .kept in
+    (((start .pre .0), (start .pre .1)), kept)
 
 some-marked-requires : tie.Need-some-marked-requires
 some-marked-requires c κs = search needs
@@ -79,13 +95,23 @@ same-length-4 c = search needs
 
 returns-4 : tie.Need-returns-4
 returns-4 c =
-    let S = stateIn (c .before .before .before .before .before .before .before .before .before .before .before .before .before .before .before .before .before .before .before .args .s .now) in
-    let v = lay (slotAt S (c .before .before .before .before .before .before .before .before .before .before .before .before .before .before .before .before .before .before .before .args .i)) in
-    let f = fields v (c .before .before .before .before .before .before .before .before .before .before .before .before .before .fields-at .ensures) in
-    let taken : v .writecount ≤ v .taken = omega (arith, (c .before .before .before .before .before .before .before .before .before .before .before .if2 .left)) in
+    let start = let c : tie.Else2 = search in let c : tie.Start = search in c in
+    let phase-at = let c : tie.Else2 = search in let c : tie.After-phase-at = search in c .phase-at .ensures in
+    let if1 = let c : tie.Else2 = search in let c : tie.Else1 = search in c .if1 .left in
+    let fields-at = let c : tie.Else2 = search in let c : tie.After-fields-at = search in c .fields-at .ensures in
+    let if2 = let c : tie.Else2 = search in c .if2 .left in
+    let clock = let c : tie.After-clock = search in c .clock .ensures in
+    let if3 = let c : tie.Else3 = search in c .if3 .left in
+    let marked-reads = let c : tie.After-marked-reads = search in c .marked-reads .ensures in
+    let entered = let c : tie.After-entered = search in c .entered .ensures in
+    let store-reads-clock = let c : tie.After-store-reads-clock = search in c .store-reads-clock .ensures in
+    let S = stateIn (start .args .s .now) in
+    let v = lay (slotAt S (start .args .i)) in
+    let f = fields v fields-at in
+    let taken : v .writecount ≤ v .taken = omega (arith, if2) in
     rw (c .some-marked .ensures)
-    (leaves _ (enter-0 controller _ _ refl (same (c .before .before .before .before .before .before .before .before .before .before .before .before .before .before .before .before .phase-at .ensures) (c .before .before .before .before .before .before .before .before .before .before .before .before .before .before .before .if1 .left)) taken (c .before .before .before .before .before .before .before .before .before .clock .ensures) (c .before .before .before .before .before .before .before .before .if3 .left) (c .before .before .before .before .before .before .marked-reads .ensures) (entered-alone v (c .before .before .before .before .before .before .before .before .before .before .before .before .before .fields-at .ensures) (c .before .before .before .before .before .entered .ensures)))
-    (c .before .before .before .store-reads-clock .ensures))
+    (leaves _ (enter-0 controller _ _ refl (same phase-at if1) taken clock if3 marked-reads (entered-alone v fields-at entered))
+    store-reads-clock)
 
 pub enter-spec : {M : Type 1} → statement M
 enter-spec =

@@ -31,7 +31,13 @@ same-length-2 : tie.Need-same-length-2
 same-length-2 c = search needs
 
 returns-2 : tie.Need-returns-2
-returns-2 c = leaves _ (finish-13 controller _ _ refl (same (c .before .before .before .before .before .before .before .before .phase-at .ensures) (c .before .before .before .before .before .before .before .if1 .left)) (c .before .before .before .before .before .spoilt .ensures) (c .before .before .before .before .if2 .taken) refl) (c .before .before .store-freed .ensures)
+returns-2 c =
+    let phase-at = let c : tie.After-phase-at = search in c .phase-at .ensures in
+    let if1 = let c : tie.Else1 = search in c .if1 .left in
+    let spoilt = let c : tie.After-spoilt = search in c .spoilt .ensures in
+    let if2 = let c : tie.Then2 = search in c .if2 .taken in
+    let store-freed = let c : tie.After-store-freed = search in c .store-freed .ensures in
+    leaves _ (finish-13 controller _ _ refl (same phase-at if1) spoilt if2 refl) store-freed
 
 fields-at-requires : tie.Need-fields-at-requires
 fields-at-requires c κs = search needs
@@ -41,14 +47,26 @@ finished-requires c κs = search needs
 
 store-fields-requires : tie.Need-store-fields-requires
 store-fields-requires c κs =
-    let x = slotAt (stateIn (c .before .before .before .before .before .before .before .before .before .before .before .args .s .now)) (c .before .before .before .before .before .before .before .before .before .before .before .args .i) in
-    (((c .before .before .before .before .before .before .before .before .before .before .before .pre .0), (c .before .before .before .before .before .before .before .before .before .before .before .pre .1)), finished-stands x _ refl (same (c .before .before .before .before .before .before .before .before .phase-at .ensures) (c .before .before .before .before .before .before .before .if1 .left)) (finished-fields _ (c .before .before .fields-at .ensures) (c .finished .ensures)) .kept)
+    let start = let c : tie.Start = search in c in
+    let phase-at = let c : tie.After-phase-at = search in c .phase-at .ensures in
+    let if1 = let c : tie.Else1 = search in c .if1 .left in
+    let fields-at = let c : tie.After-fields-at = search in c .fields-at .ensures in
+    let x = slotAt (stateIn (start .args .s .now)) (start .args .i) in
+    (((start .pre .0), (start .pre .1)), finished-stands x _ refl (same phase-at if1) (finished-fields _ fields-at (c .finished .ensures)) .kept)
 
 same-length-3 : tie.Need-same-length-3
 same-length-3 c = search needs
 
 returns-3 : tie.Need-returns-3
-returns-3 c = leaves _ (finish-0 controller _ _ refl (same (c .before .before .before .before .before .before .before .before .before .before .before .phase-at .ensures) (c .before .before .before .before .before .before .before .before .before .before .if1 .left)) (c .before .before .before .before .before .before .before .before .spoilt .ensures) (c .before .before .before .before .before .before .before .if2 .left) (finished-fields _ (c .before .before .before .before .before .fields-at .ensures) (c .before .before .before .finished .ensures))) (c .before .before .store-fields .ensures)
+returns-3 c =
+    let phase-at = let c : tie.After-phase-at = search in c .phase-at .ensures in
+    let if1 = let c : tie.Else1 = search in c .if1 .left in
+    let spoilt = let c : tie.After-spoilt = search in c .spoilt .ensures in
+    let if2 = let c : tie.Else2 = search in c .if2 .left in
+    let fields-at = let c : tie.After-fields-at = search in c .fields-at .ensures in
+    let finished = let c : tie.After-finished = search in c .finished .ensures in
+    let store-fields = let c : tie.After-store-fields = search in c .store-fields .ensures in
+    leaves _ (finish-0 controller _ _ refl (same phase-at if1) spoilt if2 (finished-fields _ fields-at finished)) store-fields
 
 pub finish-spec : {M : Type 1} → statement M
 finish-spec =

@@ -32,23 +32,39 @@ ignoring-set-requires c κs = search needs
 
 store-fields-requires : tie.Need-store-fields-requires
 store-fields-requires c κs =
-    let x = slotAt (stateIn (c .before .before .before .before .before .before .before .before .before .before .before .args .s .now)) (c .before .before .before .before .before .before .before .before .before .before .before .args .i) in
-    let p = (same (c .before .before .before .before .before .before .before .before .phase-at .ensures) (c .before .before .before .before .before .before .before .if1 .left)) in
-    (((c .before .before .before .before .before .before .before .before .before .before .before .pre .0), (c .before .before .before .before .before .before .before .before .before .before .before .pre .1)), ignoring-stands x _ refl p (ignoring-fields _ (c .before .before .fields-at .ensures) p (c .ignoring-set .ensures)) .kept)
+    let start = let c : tie.Start = search in c in
+    let phase-at = let c : tie.After-phase-at = search in c .phase-at .ensures in
+    let if1 = let c : tie.Else1 = search in c .if1 .left in
+    let fields-at = let c : tie.After-fields-at = search in c .fields-at .ensures in
+    let x = slotAt (stateIn (start .args .s .now)) (start .args .i) in
+    let p = (same phase-at if1) in
+    (((start .pre .0), (start .pre .1)), ignoring-stands x _ refl p (ignoring-fields _ fields-at p (c .ignoring-set .ensures)) .kept)
 
 same-length-2 : tie.Need-same-length-2
 same-length-2 c = search needs
 
 returns-2 : tie.Need-returns-2
 returns-2 c =
-    let p = (same (c .before .before .before .before .before .before .before .before .before .before .before .phase-at .ensures) (c .before .before .before .before .before .before .before .before .before .before .if1 .left)) in
-    leaves _ (ignore-0 controller _ _ refl p (c .before .before .before .before .before .before .before .before .some-marked .ensures) (c .before .before .before .before .before .before .before .if2 .taken) (ignoring-fields _ (c .before .before .before .before .before .fields-at .ensures) p (c .before .before .before .ignoring-set .ensures))) (c .before .before .store-fields .ensures)
+    let phase-at = let c : tie.After-phase-at = search in c .phase-at .ensures in
+    let if1 = let c : tie.Else1 = search in c .if1 .left in
+    let some-marked = let c : tie.After-some-marked = search in c .some-marked .ensures in
+    let if2 = let c : tie.Then2 = search in c .if2 .taken in
+    let fields-at = let c : tie.After-fields-at = search in c .fields-at .ensures in
+    let ignoring-set = let c : tie.After-ignoring-set = search in c .ignoring-set .ensures in
+    let store-fields = let c : tie.After-store-fields = search in c .store-fields .ensures in
+    let p = (same phase-at if1) in
+    leaves _ (ignore-0 controller _ _ refl p some-marked if2 (ignoring-fields _ fields-at p ignoring-set)) store-fields
 
 same-length-3 : tie.Need-same-length-3
 same-length-3 c = search needs
 
 returns-3 : tie.Need-returns-3
-returns-3 c = keeps _ (c .before .before .before .before .before .before .before .pre .0) (ignore-none controller _ _ refl (same (c .before .before .before .before .phase-at .ensures) (c .before .before .before .if1 .left)) (c .before .some-marked .ensures) (c .if2 .left))
+returns-3 c =
+    let start = let c : tie.Start = search in c in
+    let phase-at = let c : tie.After-phase-at = search in c .phase-at .ensures in
+    let if1 = let c : tie.Else1 = search in c .if1 .left in
+    let some-marked = let c : tie.After-some-marked = search in c .some-marked .ensures in
+    keeps _ (start .pre .0) (ignore-none controller _ _ refl (same phase-at if1) some-marked (c .if2 .left))
 
 pub ignore-spec : {M : Type 1} → statement M
 ignore-spec =

@@ -24,13 +24,21 @@ same-length-2 : tie.Need-same-length-2
 same-length-2 c = search needs
 
 returns-2 : tie.Need-returns-2
-returns-2 c = refuses _ (illegal-5 controller _ _ _ refl (same (c .before .before .before .before .phase-at .ensures) (c .before .before .before .if1 .left)) (c .before .count .ensures) (c .if2 .taken))
+returns-2 c =
+    let phase-at = let c : tie.After-phase-at = search in c .phase-at .ensures in
+    let if1 = let c : tie.Else1 = search in c .if1 .left in
+    let count = let c : tie.After-count = search in c .count .ensures in
+    refuses _ (illegal-5 controller _ _ _ refl (same phase-at if1) count (c .if2 .taken))
 
 same-length-3 : tie.Need-same-length-3
 same-length-3 c = search needs
 
 returns-3 : tie.Need-returns-3
-returns-3 c = refuses _ (illegal-6 controller _ _ _ refl (same (c .before .before .before .before .phase-at .ensures) (c .before .before .before .if1 .left)) (c .before .count .ensures) (c .if2 .left))
+returns-3 c =
+    let phase-at = let c : tie.After-phase-at = search in c .phase-at .ensures in
+    let if1 = let c : tie.Else1 = search in c .if1 .left in
+    let count = let c : tie.After-count = search in c .count .ensures in
+    refuses _ (illegal-6 controller _ _ _ refl (same phase-at if1) count (c .if2 .left))
 
 pub illegal-update-spec : {M : Type 1} → statement M
 illegal-update-spec =

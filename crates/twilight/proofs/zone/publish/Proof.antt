@@ -32,55 +32,84 @@ fields-at-requires c κs = search needs
 
 write-at-requires : tie.Need-write-at-requires
 write-at-requires c κs =
-    let l = (c .before .before .before .before .before .before .before .args .s .now) in
-    let v = lay (slotAt (stateIn l) (c .before .before .before .before .before .before .before .args .i)) in
-    let f = fields v (c .before .fields-at .ensures) in
-    let p = same (c .before .before .before .before .phase-at .ensures) (c .before .before .before .if1 .left) in
-    let next = next-of l (c .before .before .before .before .before .before .before .pre .0) (c .before .before .before .before .before .before .before .args .i) (c .before .before .before .before .before .before .before .pre .1) v refl p in
-    ((c .before .before .before .before .before .before .before .pre .0), (c .before .before .before .before .before .before .before .pre .1), omega arith)
+    let start = let c : tie.Start = search in c in
+    let phase-at = let c : tie.After-phase-at = search in c .phase-at .ensures in
+    let if1 = let c : tie.Else1 = search in c .if1 .left in
+    let fields-at = let c : tie.After-fields-at = search in c .fields-at .ensures in
+    let l = let c : tie.Start = search in c .args .s .now in
+    let v = lay (slotAt (stateIn l) (start .args .i)) in
+    let f = fields v fields-at in
+    let p = same phase-at if1 in
+    let next = next-of l (start .pre .0) (start .args .i) (start .pre .1) v refl p in
+    ((start .pre .0), (start .pre .1), omega arith)
 
 cell-at-requires : tie.Need-cell-at-requires
 cell-at-requires c κs =
-    let l = (c .before .before .before .before .before .before .before .before .before .args .s .now) in
-    let v = lay (slotAt (stateIn l) (c .before .before .before .before .before .before .before .before .before .args .i)) in
-    let f = fields v (c .before .before .before .fields-at .ensures) in
-    let p = same (c .before .before .before .before .before .before .phase-at .ensures) (c .before .before .before .before .before .if1 .left) in
-    let next = next-of l (c .before .before .before .before .before .before .before .before .before .pre .0) (c .before .before .before .before .before .before .before .before .before .args .i) (c .before .before .before .before .before .before .before .before .before .pre .1) v refl p in
-    let entry : getD (v .writes) (v .taken) noWrite ≡ (c .before .write-at .result) = sym ((c .before .write-at .ensures) ∙ ap (λ (n : ℕ). getD (v .writes) n noWrite) (f .taken)) in
-    ((c .before .before .before .before .before .before .before .before .before .pre .0), rw (← entry) (next .inside))
+    let start = let c : tie.Start = search in c in
+    let phase-at = let c : tie.After-phase-at = search in c .phase-at .ensures in
+    let if1 = let c : tie.Else1 = search in c .if1 .left in
+    let fields-at = let c : tie.After-fields-at = search in c .fields-at .ensures in
+    let write-at-result = let c : tie.After-write-at = search in c .write-at .result in
+    let write-at-ensures = let c : tie.After-write-at = search in c .write-at .ensures in
+    let l = let c : tie.Start = search in c .args .s .now in
+    let v = lay (slotAt (stateIn l) (start .args .i)) in
+    let f = fields v fields-at in
+    let p = same phase-at if1 in
+    let next = next-of l (start .pre .0) (start .args .i) (start .pre .1) v refl p in
+    let entry : getD (v .writes) (v .taken) noWrite ≡ write-at-result = sym (write-at-ensures ∙ ap (λ (n : ℕ). getD (v .writes) n noWrite) (f .taken)) in
+    ((start .pre .0), rw (← entry) (next .inside))
 
 published-one-requires : tie.Need-published-one-requires
 published-one-requires c κs =
-    let l = (c .before .before .before .before .before .before .before .before .before .before .before .args .s .now) in
-    let v = lay (slotAt (stateIn l) (c .before .before .before .before .before .before .before .before .before .before .before .args .i)) in
-    let f = fields v (c .before .before .before .before .before .fields-at .ensures) in
-    let p = same (c .before .before .before .before .before .before .before .before .phase-at .ensures) (c .before .before .before .before .before .before .before .if1 .left) in
-    let next = next-of l (c .before .before .before .before .before .before .before .before .before .before .before .pre .0) (c .before .before .before .before .before .before .before .before .before .before .before .args .i) (c .before .before .before .before .before .before .before .before .before .before .before .pre .1) v refl p in
+    let start = let c : tie.Start = search in c in
+    let phase-at = let c : tie.After-phase-at = search in c .phase-at .ensures in
+    let if1 = let c : tie.Else1 = search in c .if1 .left in
+    let fields-at = let c : tie.After-fields-at = search in c .fields-at .ensures in
+    let l = let c : tie.Start = search in c .args .s .now in
+    let v = lay (slotAt (stateIn l) (start .args .i)) in
+    let f = fields v fields-at in
+    let p = same phase-at if1 in
+    let next = next-of l (start .pre .0) (start .args .i) (start .pre .1) v refl p in
     omega arith
 
 store-fields-cell-requires : tie.Need-store-fields-cell-requires
 store-fields-cell-requires c κs =
-    let l = (c .before .before .before .before .before .before .before .before .before .before .before .before .args .s .now) in
-    let v = lay (slotAt (stateIn l) (c .before .before .before .before .before .before .before .before .before .before .before .before .args .i)) in
-    let f = fields v (c .before .before .before .before .before .before .fields-at .ensures) in
-    let p = same (c .before .before .before .before .before .before .before .before .before .phase-at .ensures) (c .before .before .before .before .before .before .before .before .if1 .left) in
-    let next = next-of l (c .before .before .before .before .before .before .before .before .before .before .before .before .pre .0) (c .before .before .before .before .before .before .before .before .before .before .before .before .args .i) (c .before .before .before .before .before .before .before .before .before .before .before .before .pre .1) v refl p in
-    let entry : getD (v .writes) (v .taken) noWrite ≡ (c .before .before .before .before .write-at .result) = sym ((c .before .before .before .before .write-at .ensures) ∙ ap (λ (n : ℕ). getD (v .writes) n noWrite) (f .taken)) in
-    let kept = published-stands (slotAt (stateIn l) (c .before .before .before .before .before .before .before .before .before .before .before .before .args .i)) v refl p (published-fields v (c .before .before .before .before .before .before .fields-at .ensures) p (c .published-one .ensures)) .kept in
-    (((c .before .before .before .before .before .before .before .before .before .before .before .before .pre .0), (c .before .before .before .before .before .before .before .before .before .before .before .before .pre .1), rw (← entry) (next .inside)), kept)
+    let start = let c : tie.Start = search in c in
+    let phase-at = let c : tie.After-phase-at = search in c .phase-at .ensures in
+    let if1 = let c : tie.Else1 = search in c .if1 .left in
+    let fields-at = let c : tie.After-fields-at = search in c .fields-at .ensures in
+    let write-at-result = let c : tie.After-write-at = search in c .write-at .result in
+    let write-at-ensures = let c : tie.After-write-at = search in c .write-at .ensures in
+    let l = let c : tie.Start = search in c .args .s .now in
+    let v = lay (slotAt (stateIn l) (start .args .i)) in
+    let f = fields v fields-at in
+    let p = same phase-at if1 in
+    let next = next-of l (start .pre .0) (start .args .i) (start .pre .1) v refl p in
+    let entry : getD (v .writes) (v .taken) noWrite ≡ write-at-result = sym (write-at-ensures ∙ ap (λ (n : ℕ). getD (v .writes) n noWrite) (f .taken)) in
+    let kept = published-stands (slotAt (stateIn l) (start .args .i)) v refl p (published-fields v fields-at p (c .published-one .ensures)) .kept in
+    (((start .pre .0), (start .pre .1), rw (← entry) (next .inside)), kept)
 
 same-length-2 : tie.Need-same-length-2
 same-length-2 c = search needs
 
 returns-2 : tie.Need-returns-2
 returns-2 c =
-    let l = (c .before .before .before .before .before .before .before .before .before .before .before .before .before .before .before .args .s .now) in
-    let v = lay (slotAt (stateIn l) (c .before .before .before .before .before .before .before .before .before .before .before .before .before .before .before .args .i)) in
-    let f = fields v (c .before .before .before .before .before .before .before .before .before .fields-at .ensures) in
-    let p = same (c .before .before .before .before .before .before .before .before .before .before .before .before .phase-at .ensures) (c .before .before .before .before .before .before .before .before .before .before .before .if1 .left) in
-    let next = next-of l (c .before .before .before .before .before .before .before .before .before .before .before .before .before .before .before .pre .0) (c .before .before .before .before .before .before .before .before .before .before .before .before .before .before .before .args .i) (c .before .before .before .before .before .before .before .before .before .before .before .before .before .before .before .pre .1) v refl p in
-    let entry : getD (v .writes) (v .taken) noWrite ≡ (c .before .before .before .before .before .before .before .write-at .result) = sym ((c .before .before .before .before .before .before .before .write-at .ensures) ∙ ap (λ (n : ℕ). getD (v .writes) n noWrite) (f .taken)) in
-    leaves _ (publish-0 controller _ _ refl p (next .logged ∙ entry) (c .before .before .before .before .before .cell-at .ensures) (f .commit) (published-fields v (c .before .before .before .before .before .before .before .before .before .fields-at .ensures) p (c .before .before .before .published-one .ensures))) (c .before .before .store-fields-cell .ensures)
+    let start = let c : tie.After-phase-at = search in let c : tie.Start = search in c in
+    let phase-at = let c : tie.After-phase-at = search in c .phase-at .ensures in
+    let if1 = let c : tie.Else1 = search in c .if1 .left in
+    let fields-at = let c : tie.After-fields-at = search in c .fields-at .ensures in
+    let write-at-result = let c : tie.After-write-at = search in c .write-at .result in
+    let write-at-ensures = let c : tie.After-write-at = search in c .write-at .ensures in
+    let cell-at = let c : tie.After-cell-at = search in c .cell-at .ensures in
+    let published-one = let c : tie.After-published-one = search in c .published-one .ensures in
+    let store-fields-cell = let c : tie.After-store-fields-cell = search in c .store-fields-cell .ensures in
+    let l = (start .args .s .now) in
+    let v = lay (slotAt (stateIn l) (start .args .i)) in
+    let f = fields v fields-at in
+    let p = same phase-at if1 in
+    let next = next-of l (start .pre .0) (start .args .i) (start .pre .1) v refl p in
+    let entry : getD (v .writes) (v .taken) noWrite ≡ write-at-result = sym (write-at-ensures ∙ ap (λ (n : ℕ). getD (v .writes) n noWrite) (f .taken)) in
+    leaves _ (publish-0 controller _ _ refl p (next .logged ∙ entry) cell-at (f .commit) (published-fields v fields-at p published-one)) store-fields-cell
 
 pub publish-spec : {M : Type 1} → statement M
 publish-spec =

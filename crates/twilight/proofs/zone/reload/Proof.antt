@@ -33,7 +33,12 @@ same-length-2 : tie.Need-same-length-2
 same-length-2 c = search needs
 
 returns-2 : tie.Need-returns-2
-returns-2 c = refuses _ (reload-11 controller _ _ refl (same (c .before .before .before .before .before .before .phase-at .ensures) (c .before .before .before .before .before .if1 .left)) (c .before .before .before .first-obstacle .ensures) (c .before .cell .given .1))
+returns-2 c =
+    let phase-at = let c : tie.After-phase-at = search in c .phase-at .ensures in
+    let if1 = let c : tie.Else1 = search in c .if1 .left in
+    let first-obstacle = let c : tie.After-first-obstacle = search in c .first-obstacle .ensures in
+    let cell = let c : tie.After-cell = search in c .cell .given in
+    refuses _ (reload-11 controller _ _ refl (same phase-at if1) first-obstacle (cell .1))
 
 enum-told : tie.Need-enum-told
 enum-told c = search needs
@@ -45,7 +50,13 @@ same-length-3 : tie.Need-same-length-3
 same-length-3 c = search needs
 
 returns-3 : tie.Need-returns-3
-returns-3 c = refuses _ (reload-12 controller _ _ refl (same (c .before .before .before .before .before .before .before .before .phase-at .ensures) (c .before .before .before .before .before .before .before .if1 .left)) (c .before .before .before .before .before .first-obstacle .ensures) (c .before .before .before .enum-told .given .1) (c .before .clock .ensures) (c .if2 .taken))
+returns-3 c =
+    let phase-at = let c : tie.After-phase-at = search in c .phase-at .ensures in
+    let if1 = let c : tie.Else1 = search in c .if1 .left in
+    let first-obstacle = let c : tie.After-first-obstacle = search in c .first-obstacle .ensures in
+    let enum-told′ = let c : tie.After-enum-told = search in c .enum-told .given in
+    let clock = let c : tie.After-clock = search in c .clock .ensures in
+    refuses _ (reload-12 controller _ _ refl (same phase-at if1) first-obstacle (enum-told′ .1) clock (c .if2 .taken))
 
 add-stamp : tie.Need-add-stamp
 add-stamp c = search needs
@@ -61,20 +72,37 @@ reloaded-requires c κs = search needs
 
 store-reads-clock-requires : tie.Need-store-reads-clock-requires
 store-reads-clock-requires c κs =
-    let S = stateIn (c .before .before .before .before .before .before .before .before .before .before .before .before .before .before .before .before .before .args .s .now) in
-    let v = lay (slotAt S (c .before .before .before .before .before .before .before .before .before .before .before .before .before .before .before .before .before .args .i)) in
-    let kept = reloaded-stands (slotAt S (c .before .before .before .before .before .before .before .before .before .before .before .before .before .before .before .before .before .args .i)) v refl (reloaded S) (c .before .before .reloaded-reads .ensures) (same (c .before .before .before .before .before .before .before .before .before .before .before .before .before .before .phase-at .ensures) (c .before .before .before .before .before .before .before .before .before .before .before .before .before .if1 .left)) (reloaded-alone v (c .before .before .before .before .fields-at .ensures) (c .before .reloaded .ensures)) .kept in
-    (((c .before .before .before .before .before .before .before .before .before .before .before .before .before .before .before .before .before .pre .0), (c .before .before .before .before .before .before .before .before .before .before .before .before .before .before .before .before .before .pre .1)), kept)
+    let start = let c : tie.After-fields-at = search in let c : tie.After-phase-at = search in let c : tie.Start = search in c in
+    let phase-at = let c : tie.After-fields-at = search in let c : tie.After-phase-at = search in c .phase-at .ensures in
+    let if1 = let c : tie.After-fields-at = search in let c : tie.Else1 = search in c .if1 .left in
+    let fields-at = let c : tie.After-fields-at = search in c .fields-at .ensures in
+    let reloaded-reads = let c : tie.After-reloaded-reads = search in c .reloaded-reads .ensures in
+    let reloaded′ = let c : tie.After-reloaded = search in c .reloaded .ensures in
+    let S = stateIn (start .args .s .now) in
+    let v = lay (slotAt S (start .args .i)) in
+    let kept = reloaded-stands (slotAt S (start .args .i)) v refl (reloaded S) reloaded-reads (same phase-at if1) (reloaded-alone v fields-at reloaded′) .kept in
+    (((start .pre .0), (start .pre .1)), kept)
 
 same-length-4 : tie.Need-same-length-4
 same-length-4 c = search needs
 
 returns-4 : tie.Need-returns-4
 returns-4 c =
-    let S = stateIn (c .before .before .before .before .before .before .before .before .before .before .before .before .before .before .before .before .before .before .before .before .args .s .now) in
-    let v = lay (slotAt S (c .before .before .before .before .before .before .before .before .before .before .before .before .before .before .before .before .before .before .before .before .args .i)) in
-    leaves _ (reload-0 controller _ _ refl (same (c .before .before .before .before .before .before .before .before .before .before .before .before .before .before .before .before .before .phase-at .ensures) (c .before .before .before .before .before .before .before .before .before .before .before .before .before .before .before .before .if1 .left)) (c .before .before .before .before .before .before .before .before .before .before .before .before .before .before .first-obstacle .ensures) (c .before .before .before .before .before .before .before .before .before .before .before .before .enum-told .given .1) (c .before .before .before .before .before .before .before .before .before .before .clock .ensures) (c .before .before .before .before .before .before .before .before .before .if2 .left) (c .before .before .before .before .before .reloaded-reads .ensures)
-    (reloaded-alone v (c .before .before .before .before .before .before .before .fields-at .ensures) (c .before .before .before .before .reloaded .ensures))) (c .before .before .store-reads-clock .ensures)
+    let start = let c : tie.After-enum-told = search in let c : tie.Start = search in c in
+    let phase-at = let c : tie.After-enum-told = search in let c : tie.After-phase-at = search in c .phase-at .ensures in
+    let if1 = let c : tie.After-enum-told = search in let c : tie.Else1 = search in c .if1 .left in
+    let first-obstacle = let c : tie.After-enum-told = search in let c : tie.After-first-obstacle = search in c .first-obstacle .ensures in
+    let enum-told′ = let c : tie.After-enum-told = search in c .enum-told .given in
+    let clock = let c : tie.After-clock = search in c .clock .ensures in
+    let if2 = let c : tie.Else2 = search in c .if2 .left in
+    let fields-at = let c : tie.After-fields-at = search in c .fields-at .ensures in
+    let reloaded-reads = let c : tie.After-reloaded-reads = search in c .reloaded-reads .ensures in
+    let reloaded′ = let c : tie.After-reloaded = search in c .reloaded .ensures in
+    let store-reads-clock = let c : tie.After-store-reads-clock = search in c .store-reads-clock .ensures in
+    let S = stateIn (start .args .s .now) in
+    let v = lay (slotAt S (start .args .i)) in
+    leaves _ (reload-0 controller _ _ refl (same phase-at if1) first-obstacle (enum-told′ .1) clock if2 reloaded-reads
+    (reloaded-alone v fields-at reloaded′)) store-reads-clock
 
 pub reload-spec : {M : Type 1} → statement M
 reload-spec =

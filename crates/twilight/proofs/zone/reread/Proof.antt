@@ -25,7 +25,11 @@ same-length-2 : tie.Need-same-length-2
 same-length-2 c = search needs
 
 returns-2 : tie.Need-returns-2
-returns-2 c = refuses _ (reread-5 controller _ _ _ refl (same (c .before .before .before .before .phase-at .ensures) (c .before .before .before .if1 .left)) (c .before .count .ensures) (c .if2 .taken))
+returns-2 c =
+    let phase-at = let c : tie.After-phase-at = search in c .phase-at .ensures in
+    let if1 = let c : tie.Else1 = search in c .if1 .left in
+    let count = let c : tie.After-count = search in c .count .ensures in
+    refuses _ (reread-5 controller _ _ _ refl (same phase-at if1) count (c .if2 .taken))
 
 find-read-requires : tie.Need-find-read-requires
 find-read-requires c κs = search needs
@@ -40,10 +44,20 @@ same-length-3 : tie.Need-same-length-3
 same-length-3 c = search needs
 
 returns-3 : tie.Need-returns-3
-returns-3 c = refuses _ (reread-8 controller _ _ _ refl (same (c .before .before .before .before .before .before .before .before .phase-at .ensures) (c .before .before .before .before .before .before .before .if1 .left)) (c .before .before .before .before .before .count .ensures) (c .before .before .before .before .if2 .left) (c .before .before .find-read .ensures) (c .enum-told .given .1))
+returns-3 c =
+    let phase-at = let c : tie.After-phase-at = search in c .phase-at .ensures in
+    let if1 = let c : tie.Else1 = search in c .if1 .left in
+    let count = let c : tie.After-count = search in c .count .ensures in
+    let if2 = let c : tie.Else2 = search in c .if2 .left in
+    let find-read = let c : tie.After-find-read = search in c .find-read .ensures in
+    refuses _ (reread-8 controller _ _ _ refl (same phase-at if1) count if2 find-read (c .enum-told .given .1))
 
 cell-at-requires : tie.Need-cell-at-requires
-cell-at-requires c κs = ((c .before .before .before .before .before .before .before .before .before .before .before .before .before .pre .0), rw (← count-read controller (c .before .before .before .before .before .before .before .before .before .before .before .before .before .args .s .now), ← (c .before .before .before .before .before .before .before .count .ensures)) (c .before .before .before .before .before .before .if2 .left))
+cell-at-requires c κs =
+    let start = let c : tie.After-count = search in let c : tie.Start = search in c in
+    let count = let c : tie.After-count = search in c .count .ensures in
+    let if2 = let c : tie.Else2 = search in c .if2 .left in
+    ((start .pre .0), rw (← count-read controller (start .args .s .now), ← count) if2)
 
 value-of-requires : tie.Need-value-of-requires
 value-of-requires c κs = search needs
@@ -53,8 +67,16 @@ same-length-4 c = search needs
 
 returns-4 : tie.Need-returns-4
 returns-4 c =
-    keeps _ (c .before .before .before .before .before .before .before .before .before .before .before .before .before .before .before .pre .0)
-    (reread-0 controller _ _ _ refl (same (c .before .before .before .before .before .before .before .before .before .before .before .before .phase-at .ensures) (c .before .before .before .before .before .before .before .before .before .before .before .if1 .left)) (c .before .before .before .before .before .before .before .before .before .count .ensures) (c .before .before .before .before .before .before .before .before .if2 .left) (c .before .before .before .before .before .before .find-read .ensures) (c .before .before .before .before .e .given .1) (c .before .cell-at .ensures) (c .value-of .ensures))
+    let start = let c : tie.After-phase-at = search in let c : tie.Start = search in c in
+    let phase-at = let c : tie.After-phase-at = search in c .phase-at .ensures in
+    let if1 = let c : tie.Else1 = search in c .if1 .left in
+    let count = let c : tie.After-count = search in c .count .ensures in
+    let if2 = let c : tie.Else2 = search in c .if2 .left in
+    let find-read = let c : tie.After-find-read = search in c .find-read .ensures in
+    let e = let c : tie.After-e = search in c .e .given in
+    let cell-at = let c : tie.After-cell-at = search in c .cell-at .ensures in
+    keeps _ (start .pre .0)
+    (reread-0 controller _ _ _ refl (same phase-at if1) count if2 find-read (e .1) cell-at (c .value-of .ensures))
 
 pub reread-spec : {M : Type 1} → statement M
 reread-spec =

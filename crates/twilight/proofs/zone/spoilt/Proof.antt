@@ -15,8 +15,10 @@ fields-at-requires c κs = search needs
 
 returns : tie.Need-returns
 returns c =
-    let v = lay (slotAt (stateIn (c .before .before .before .args .s .now)) (c .before .before .before .args .i)) in
-    let flag : v .ignoring ≡ true = sym (fields v (c .before .fields-at .ensures) .ignoring) ∙ (c .if1 .taken) in
+    let start = let c : tie.Start = search in c in
+    let fields-at = let c : tie.After-fields-at = search in c .fields-at .ensures in
+    let v = lay (slotAt (stateIn (start .args .s .now)) (start .args .i)) in
+    let flag : v .ignoring ≡ true = sym (fields v fields-at .ignoring) ∙ (c .if1 .taken) in
     sym (rw (flag, and-false))
 
 some-marked-requires : tie.Need-some-marked-requires
@@ -24,8 +26,11 @@ some-marked-requires c κs = search needs
 
 returns-2 : tie.Need-returns-2
 returns-2 c =
-    let v = lay (slotAt (stateIn (c .before .before .before .before .args .s .now)) (c .before .before .before .before .args .i)) in
-    let flag : v .ignoring ≡ false = sym (fields v (c .before .before .fields-at .ensures) .ignoring) ∙ (c .before .if1 .left) in
+    let start = let c : tie.Start = search in c in
+    let fields-at = let c : tie.After-fields-at = search in c .fields-at .ensures in
+    let if1 = let c : tie.Else1 = search in c .if1 .left in
+    let v = lay (slotAt (stateIn (start .args .s .now)) (start .args .i)) in
+    let flag : v .ignoring ≡ false = sym (fields v fields-at .ignoring) ∙ if1 in
     rw (flag, and-true) (c .some-marked .ensures)
 
 pub spoilt-spec : {M : Type 1} → statement M
