@@ -1,4 +1,5 @@
-// The steps on the way into the twilight zone, lock and enter, and give up, which frees what was locked. Each tests in the order of its row, and a refusal changes nothing.
+// The steps of a locking slot: lock takes its cells one by one, and enter leads into the twilight zone. Each tests in the order of its row, and a refusal changes
+// nothing.
 ghost use Prim.Native.Nat.{_<_};
 ghost use Rattle.rules.specs.Model.{controller};
 ghost use Rattle.rules.specs.Steps as rule;
@@ -59,20 +60,4 @@ pub fn enter(s: &mut [u8], i: u8) -> Reply
     let w = v.entered(area::marked_reads(s, i), commit);
     stores::store_reads_clock(s, i, w, commit);
     Reply::Verdict(!w.some_marked())
-}
-
-// A publishing slot is committed, and an idle one has nothing to give up.
-pub fn give_up(s: &mut [u8], i: u8) -> Reply
-    requires { ⌜ Good (now s) × (i < 8) ⌝ }
-    ensures { λ r. ⌜ Did (rule.giveUp controller (stateIn (now (s .entry))) i) (now (s .entry)) r (now (s .exit)) ⌝ }
-{
-    let phase = area::phase_at(s, i);
-    if phase == 0 {
-        return Reply::NotAllowed;
-    }
-    if phase == 4 {
-        return Reply::NotAllowed;
-    }
-    stores::store_freed(s, i);
-    Reply::Done
 }

@@ -1,4 +1,4 @@
-// The steps of the open phase: begin, read, write and close. Each tests in the order of its row, and a refusal changes nothing.
+// The steps that open a transaction, read for it and close it. Each tests in the order of its row, and a refusal changes nothing.
 ghost use mathlib.Core.Path.{_≡_};
 ghost use Prim.Native.Nat.{_<_};
 ghost use Rattle.rules.specs.Model.{controller};
@@ -7,16 +7,14 @@ ghost use Rattle.rules.specs.State.{cellAt, slotAt};
 ghost use Rattle.rules.specs.Steps as rule;
 ghost use Rattle.area.specs.Good.{Good, stateIn};
 ghost use Rattle.ways.specs.Did.{Did};
-ghost use Rattle.ways.specs.Asked.{noRoom, sharedRead};
+ghost use Rattle.ways.specs.Asked.{sharedRead};
 use area::stores;
 use call::Reply;
 use rules::Cell;
 use slot::ReadEntry;
 use slot::ReadFound;
 use slot::SlotRecord;
-use slot::WriteEntry;
 use slot::WriteFound;
-use value::CellValue;
 
 // Start is the clock, so that every stamp given later is above it.
 pub fn begin(s: &mut [u8], i: u8) -> Reply
@@ -75,62 +73,6 @@ fn read_shared(s: &mut [u8], i: u8, cell: u8, x: Cell) -> Reply
     };
     stores::store_read(s, i, v.joined(e));
     Reply::Value(value::value_of(x.kind, x.word))
-}
-
-// Whether the write log of slot `i` has no entry of the cell, and no room for one.
-fn no_room(s: &[u8], i: u8, cell: u8) -> bool
-    requires { ⌜ Good (now s) × (i < 8) ⌝ }
-    ensures { λ r. ⌜ r ≡ noRoom (lay (slotAt (stateIn (now (s .entry))) i)) cell ⌝ }
-{
-    let v = area::fields_at(s, i);
-    if (v.writecount as usize) < SlotRecord::WRITES {
-        return false;
-    }
-    match area::find_write(s, i, cell) {
-        WriteFound::Entry(_) => false,
-        WriteFound::Nothing => true,
-    }
-}
-
-// The value is asked before the cell's kind, and room comes last: the lowest code is given.
-pub fn write(s: &mut [u8], i: u8, cell: u8, v: CellValue) -> Reply
-    requires { ⌜ Good (now s) × (i < 8) ⌝ }
-    ensures { λ r. ⌜ Did (rule.write controller (stateIn (now (s .entry))) i cell v) (now (s .entry)) r (now (s .exit)) ⌝ }
-{
-    if area::phase_at(s, i) != 1 {
-        return Reply::NotAllowed;
-    }
-    if area::count(s) <= cell {
-        return Reply::NoSuchCell;
-    }
-    let kind = v.kind();
-    let word = v.word();
-    if !value::legal(kind, word) {
-        return Reply::IllegalValue;
-    }
-    if kind != area::cell_at(s, cell).kind {
-        return Reply::OtherKind;
-    }
-    if no_room(s, i, cell) {
-        return Reply::LogFull;
-    }
-    let open = area::writes_at(s, i);
-    stores::store_writes(s, i, open.written(WriteEntry { cell, word }));
-    Reply::Done
-}
-
-// A write whose kind or word is illegal has no value; codes 4 and 5 come before its own all the same.
-pub fn illegal_write(s: &mut [u8], i: u8, cell: u8) -> Reply
-    requires { ⌜ Good (now s) × (i < 8) ⌝ }
-    ensures { λ r. ⌜ Did (rule.illegalWrite controller (stateIn (now (s .entry))) i cell) (now (s .entry)) r (now (s .exit)) ⌝ }
-{
-    if area::phase_at(s, i) != 1 {
-        return Reply::NotAllowed;
-    }
-    if area::count(s) <= cell {
-        return Reply::NoSuchCell;
-    }
-    Reply::IllegalValue
 }
 
 // The write log is whole now, and none of its cells is taken.

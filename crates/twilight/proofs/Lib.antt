@@ -1,3 +1,1 @@
-pub mod Entry
-pub mod Stamp
-pub mod Commit
+pub mod Ways

@@ -1,20 +1,13 @@
-// The steps in the twilight zone: reread, update, ask, reload, ignore and finish. Each tests in the order of its row, and a refusal changes nothing.
-ghost use mathlib.Core.Path.{_≡_};
+// The steps in the twilight zone on what was read: reread, ask, reload and ignore. Each tests in the order of its row, and a refusal changes nothing.
 ghost use Prim.Native.Nat.{_<_};
 ghost use Rattle.rules.specs.Model.{controller};
-ghost use Rattle.rules.specs.Layout.{lay};
-ghost use Rattle.rules.specs.State.{slotAt};
 ghost use Rattle.rules.specs.Steps as rule;
 ghost use Rattle.area.specs.Good.{Good, stateIn};
 ghost use Rattle.ways.specs.Did.{Did};
-ghost use Rattle.ways.specs.Asked.{markedUnignored};
 use area::Obstacle;
 use area::stores;
 use call::Reply;
 use slot::ReadFound;
-use slot::WriteEntry;
-use slot::WriteFound;
-use value::CellValue;
 
 // The read log's value of the cell, marked or not.
 pub fn reread(s: &mut [u8], i: u8, cell: u8) -> Reply
@@ -32,48 +25,6 @@ pub fn reread(s: &mut [u8], i: u8, cell: u8) -> Reply
     };
     let x = area::cell_at(s, cell);
     Reply::Value(value::value_of(x.kind, e.word))
-}
-
-// Replaces the cell's value in the write log.
-pub fn update(s: &mut [u8], i: u8, cell: u8, to: CellValue) -> Reply
-    requires { ⌜ Good (now s) × (i < 8) ⌝ }
-    ensures { λ r. ⌜ Did (rule.update controller (stateIn (now (s .entry))) i cell to) (now (s .entry)) r (now (s .exit)) ⌝ }
-{
-    if area::phase_at(s, i) != 3 {
-        return Reply::NotAllowed;
-    }
-    if area::count(s) <= cell {
-        return Reply::NoSuchCell;
-    }
-    let kind = to.kind();
-    let word = to.word();
-    if !value::legal(kind, word) {
-        return Reply::IllegalValue;
-    }
-    let x = area::cell_at(s, cell);
-    if kind != x.kind {
-        return Reply::OtherKind;
-    }
-    let WriteFound::Entry(_) = area::find_write(s, i, cell) else {
-        return Reply::NotInLog;
-    };
-    let v = area::writes_at(s, i);
-    stores::store_writes(s, i, v.written(WriteEntry { cell, word }));
-    Reply::Done
-}
-
-// An update whose kind or word is illegal: codes 4 and 5 come before 6.
-pub fn illegal_update(s: &mut [u8], i: u8, cell: u8) -> Reply
-    requires { ⌜ Good (now s) × (i < 8) ⌝ }
-    ensures { λ r. ⌜ Did (rule.illegalUpdate controller (stateIn (now (s .entry))) i cell) (now (s .entry)) r (now (s .exit)) ⌝ }
-{
-    if area::phase_at(s, i) != 3 {
-        return Reply::NotAllowed;
-    }
-    if area::count(s) <= cell {
-        return Reply::NoSuchCell;
-    }
-    Reply::IllegalValue
 }
 
 // Whether the cell's read entry is marked.
@@ -127,34 +78,5 @@ pub fn ignore(s: &mut [u8], i: u8) -> Reply
         let v = area::fields_at(s, i);
         stores::store_fields(s, i, v.ignoring_set());
     }
-    Reply::Done
-}
-
-// Some mark and no flag: what was read no longer holds together, and the task does not ignore it.
-fn spoilt(s: &[u8], i: u8) -> bool
-    requires { ⌜ Good (now s) × (i < 8) ⌝ }
-    ensures { λ r. ⌜ r ≡ markedUnignored (lay (slotAt (stateIn (now (s .entry))) i)) ⌝ }
-{
-    let v = area::fields_at(s, i);
-    if v.ignoring {
-        return false;
-    }
-    area::some_marked(s, i)
-}
-
-// Ends without commit and frees all held cells, or commits: publishing, or idle at once if nothing was written.
-pub fn finish(s: &mut [u8], i: u8) -> Reply
-    requires { ⌜ Good (now s) × (i < 8) ⌝ }
-    ensures { λ r. ⌜ Did (rule.finish controller (stateIn (now (s .entry))) i) (now (s .entry)) r (now (s .exit)) ⌝ }
-{
-    if area::phase_at(s, i) != 3 {
-        return Reply::NotAllowed;
-    }
-    if spoilt(s, i) {
-        stores::store_freed(s, i);
-        return Reply::Aborted;
-    }
-    let v = area::fields_at(s, i);
-    stores::store_fields(s, i, v.finished());
     Reply::Done
 }

@@ -1,12 +1,11 @@
 -- From what a step comes to, by its definition, to what was done: a refusal or an answer without a change leaves the bytes, and any other step leaves the bytes of the state after it.
-use mathlib.Core.Bool.{Bool, true, false}
 use mathlib.Core.List.{List}
 use mathlib.Core.Path.{_≡_, sym, _∙_, ap}
 use Prim.Native.Nat.{ℕ}
 use Rattle.call.specs.declared.Reply.{Reply}
 use Rattle.rules.specs.Model.{controller}
 use Rattle.rules.specs.State.{State}
-use Rattle.rules.specs.Outcome.{Outcome, refused, accepted, replyOf, refuseIf}
+use Rattle.rules.specs.Outcome.{Outcome, refused, accepted, replyOf}
 use Rattle.rules.specs.Layout.{pack}
 use Rattle.rules.specs.Area.{answered}
 use Rattle.rules.proofs.RoundTrip.{pack-state}
@@ -26,10 +25,3 @@ module _ {o : Outcome} (a : List ℕ) {r : Reply} where
 -- a step that goes on as another
 pub onward : {o p : Outcome} {l a : List ℕ} {r : Reply} → o ≡ p → Did p l r a → Did o l r a
 onward e d = rw e d
-
--- a test that a step makes, where it is known
-pub stops : {b : Bool} (r : Reply) (o : Outcome) → b ≡ true → refuseIf b r o ≡ refused r
-stops r o e = rw e
-
-pub passes : {b : Bool} (r : Reply) (o : Outcome) → b ≡ false → refuseIf b r o ≡ o
-passes r o e = rw e

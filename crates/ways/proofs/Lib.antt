@@ -1,6 +1,8 @@
 pub mod Done
-pub mod Found
+pub mod Tests
 pub mod Fields
-pub mod OpeningLaws
-pub mod ZoneLaws
+pub mod Found
+pub mod Phase
+pub mod Record
+pub mod Known
 pub mod Unique

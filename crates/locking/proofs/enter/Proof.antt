@@ -12,8 +12,7 @@ use Rattle.rules.specs.Layout.{lay}
 use Rattle.area.specs.Good.{stateIn}
 use Rattle.ways.proofs.Fields.{other, same, fields}
 use Rattle.ways.proofs.Done.{refuses, leaves}
-use Rattle.ways.proofs.ZoneLaws.Record.{entered-stands}
-use Rattle.locking.proofs.Ways.{enter-4, enter-missing, enter-12, enter-0}
+use Rattle.locking.proofs.Ways.{entered-stands, enter-4, enter-missing, enter-12, enter-0}
 use Rattle.locking.proofs.enter.Statement.{statement}
 use Rattle.locking.proofs.enter.Tie as tie
 
@@ -24,7 +23,7 @@ same-length : tie.Need-same-length
 same-length c = search needs
 
 returns : tie.Need-returns
-returns c = refuses _ (enter-4 controller _ _ refl (other (c .before .phase-at .ensures) (c .if1 .taken)))
+returns c = refuses _ (enter-4 controller _ _ (other (c .before .phase-at .ensures) (c .if1 .taken)))
 
 fields-at-requires : tie.Need-fields-at-requires
 fields-at-requires c κs = search needs
@@ -84,7 +83,7 @@ store-reads-clock-requires c κs =
     let S = stateIn (start .args .s .now) in
     let v = lay (slotAt S (start .args .i)) in
     let f = fields v fields-at in
-    let kept = entered-stands (slotAt S (start .args .i)) v refl (withMark S (start .args .i) (v .start)) marked-reads (same phase-at if1) (entered-alone v fields-at entered) .kept in
+    let kept = entered-stands (slotAt S (start .args .i)) v refl (same phase-at if1) (withMark S (start .args .i) (v .start)) marked-reads (entered-alone v fields-at entered) .kept in
     (((start .pre .0), (start .pre .1)), kept)
 
 some-marked-requires : tie.Need-some-marked-requires

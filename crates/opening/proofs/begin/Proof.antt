@@ -1,16 +1,15 @@
 -- `begin` meets its contract: only an idle slot begins, and the record of an open slot with the clock as its start is stored; an idle slot has no logs.
 use borrow.Author.Needs.{needs}
-use mathlib.Core.Path.{refl}
+use mathlib.Core.Path.{refl, ap}
 use Rattle.slot.proofs.Laws.Fields.{begun-fields}
 use Rattle.rules.specs.Model.{controller}
 use Rattle.rules.specs.State.{slotAt}
-use Rattle.rules.specs.Layout.{stateOf}
+use Rattle.rules.specs.Layout.{lay}
+use Rattle.area.specs.Good.{stateIn}
 use Rattle.ways.proofs.Fields.{other, same}
-use Rattle.ways.proofs.Done.{refuses}
-use Rattle.ways.proofs.OpeningLaws.Did.{stored, storable}
-use Rattle.ways.proofs.OpeningLaws.Next.{begun-next}
-use Rattle.ways.proofs.OpeningLaws.Phase.{empty-phase}
-use Rattle.opening.proofs.Ways.{begin-4, begin-0}
+use Rattle.ways.proofs.Phase.{is-idle}
+use Rattle.ways.proofs.Done.{refuses, leaves}
+use Rattle.opening.proofs.Ways.{begun-stands, begin-4, begin-0}
 use Rattle.opening.proofs.begin.Statement.{statement}
 use Rattle.opening.proofs.begin.Tie as tie
 
@@ -21,7 +20,7 @@ same-length : tie.Need-same-length
 same-length c = search needs
 
 returns : tie.Need-returns
-returns c = refuses _ (begin-4 controller _ _ _ refl (other (c .before .phase-at .ensures) (c .if1 .taken)))
+returns c = refuses _ (begin-4 controller _ _ (other (c .before .phase-at .ensures) (c .if1 .taken)))
 
 clock-requires : tie.Need-clock-requires
 clock-requires c κs = search needs
@@ -34,8 +33,8 @@ store-fields-requires c κs =
     let start = let c : tie.Start = search in c in
     let phase-at = let c : tie.After-phase-at = search in c .phase-at .ensures in
     let if1 = let c : tie.Else1 = search in c .if1 .left in
-    let idle = empty-phase (slotAt (stateOf controller (start .args .s .now)) (start .args .i)) (same phase-at if1) in
-    (((start .pre .0), (start .pre .1)), storable (begun-next _ (begun-fields _ _ idle (c .begun .ensures))))
+    let idle = ap lay (is-idle (slotAt (stateIn (start .args .s .now)) (start .args .i)) _ refl (same phase-at if1)) in
+    (((start .pre .0), (start .pre .1)), begun-stands (begun-fields _ _ idle (c .begun .ensures)) .kept)
 
 same-length-2 : tie.Need-same-length-2
 same-length-2 c = search needs
@@ -48,8 +47,8 @@ returns-2 c =
     let clock = let c : tie.After-clock = search in c .clock .ensures in
     let begun = let c : tie.After-begun = search in c .begun .ensures in
     let store-fields = let c : tie.After-store-fields = search in c .store-fields .ensures in
-    let idle = empty-phase (slotAt (stateOf controller (start .args .s .now)) (start .args .i)) (same phase-at if1) in
-    stored _ _ _ (begin-0 controller _ _ _ refl (same phase-at if1) clock) (begun-next _ (begun-fields _ _ idle begun)) store-fields
+    let idle = ap lay (is-idle (slotAt (stateIn (start .args .s .now)) (start .args .i)) _ refl (same phase-at if1)) in
+    leaves _ (begin-0 controller _ _ refl (same phase-at if1) clock (begun-fields _ _ idle begun)) store-fields
 
 pub begin-spec : {M : Type 1} → statement M
 begin-spec =

@@ -6,7 +6,6 @@ use Rattle.rules.specs.Model.{controller}
 use Rattle.rules.proofs.AreaRead.{count-read}
 use Rattle.ways.proofs.Fields.{other, same}
 use Rattle.ways.proofs.Done.{refuses, keeps, onward}
-use Rattle.ways.proofs.Found.{read-sought, write-sought}
 use Rattle.opening.proofs.Ways.{read-4, read-5, read-written, read-logged, read-shared}
 use Rattle.opening.proofs.read.Statement.{statement}
 use Rattle.opening.proofs.read.Tie as tie
@@ -18,7 +17,7 @@ same-length : tie.Need-same-length
 same-length c = search needs
 
 returns : tie.Need-returns
-returns c = refuses _ (read-4 controller _ _ _ refl _ (other (c .before .phase-at .ensures) (c .if1 .taken)))
+returns c = refuses _ (read-4 controller _ _ _ (other (c .before .phase-at .ensures) (c .if1 .taken)))
 
 count-requires : tie.Need-count-requires
 count-requires c κs = search needs
@@ -31,7 +30,7 @@ returns-2 c =
     let phase-at = let c : tie.After-phase-at = search in c .phase-at .ensures in
     let if1 = let c : tie.Else1 = search in c .if1 .left in
     let count = let c : tie.After-count = search in c .count .ensures in
-    refuses _ (read-5 controller _ _ _ refl (same phase-at if1) _ (omega (arith, count)))
+    refuses _ (read-5 controller _ _ refl (same phase-at if1) _ count (c .if2 .taken))
 
 cell-at-requires : tie.Need-cell-at-requires
 cell-at-requires c κs =
@@ -57,11 +56,12 @@ returns-3 c =
     let phase-at = let c : tie.After-phase-at = search in c .phase-at .ensures in
     let if1 = let c : tie.Else1 = search in c .if1 .left in
     let count = let c : tie.After-count = search in c .count .ensures in
+    let if2 = let c : tie.Else2 = search in c .if2 .left in
     let cell-at = let c : tie.After-cell-at = search in c .cell-at .ensures in
     let find-write = let c : tie.After-find-write = search in c .find-write .ensures in
     let e = let c : tie.After-e = search in c .e .given in
     keeps _ (start .pre .0)
-    (read-written controller _ _ _ refl (same phase-at if1) _ (omega (arith, count)) _ cell-at _ (write-sought _ find-write (e .1)) (c .value-of .ensures))
+    (read-written controller _ _ refl (same phase-at if1) _ count if2 find-write cell-at (e .1) (c .value-of .ensures))
 
 enum-told : tie.Need-enum-told
 enum-told c = search needs
@@ -84,14 +84,14 @@ returns-4 c =
     let phase-at = let c : tie.After-cell-at = search in let c : tie.After-phase-at = search in c .phase-at .ensures in
     let if1 = let c : tie.After-cell-at = search in let c : tie.Else1 = search in c .if1 .left in
     let count = let c : tie.After-cell-at = search in let c : tie.After-count = search in c .count .ensures in
+    let if2 = let c : tie.After-cell-at = search in let c : tie.Else2 = search in c .if2 .left in
     let cell-at = let c : tie.After-cell-at = search in c .cell-at .ensures in
     let find-write = let c : tie.After-find-write = search in c .find-write .ensures in
     let enum-told′ = let c : tie.After-enum-told = search in c .enum-told .given in
     let find-read = let c : tie.After-find-read = search in c .find-read .ensures in
     let e2 = let c : tie.After-e2 = search in c .e2 .given in
     keeps _ (start .pre .0)
-    (read-logged controller _ _ _ refl (same phase-at if1) _ (omega (arith, count)) _ cell-at _ (write-sought _ find-write (enum-told′ .1))
-    (read-sought _ find-read (e2 .1)) (c .value-of2 .ensures))
+    (read-logged controller _ _ refl (same phase-at if1) _ count if2 find-write (enum-told′ .1) find-read cell-at (e2 .1) (c .value-of2 .ensures))
 
 enum-told-2 : tie.Need-enum-told-2
 enum-told-2 c = search needs
@@ -112,13 +112,13 @@ returns-5 c =
     let phase-at = let c : tie.After-find-write = search in let c : tie.After-phase-at = search in c .phase-at .ensures in
     let if1 = let c : tie.After-find-write = search in let c : tie.Else1 = search in c .if1 .left in
     let count = let c : tie.After-find-write = search in let c : tie.After-count = search in c .count .ensures in
+    let if2 = let c : tie.After-find-write = search in let c : tie.Else2 = search in c .if2 .left in
     let find-write = let c : tie.After-find-write = search in c .find-write .ensures in
     let enum-told′ = let c : tie.After-enum-told = search in c .enum-told .given in
     let find-read = let c : tie.After-find-read = search in c .find-read .ensures in
     let enum-told2 = let c : tie.After-enum-told2 = search in c .enum-told2 .given in
     let read-shared′ = let c : tie.After-read-shared = search in c .read-shared .ensures in
-    onward (read-shared controller _ _ _ refl (same phase-at if1) _ (omega (arith, count)) (write-sought _ find-write (enum-told′ .1))
-    (read-sought _ find-read (enum-told2 .1))) read-shared′
+    onward (read-shared controller _ _ refl (same phase-at if1) _ count if2 find-write (enum-told′ .1) find-read (enum-told2 .1)) read-shared′
 
 pub read-spec : {M : Type 1} → statement M
 read-spec =

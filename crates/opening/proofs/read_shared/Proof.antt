@@ -8,13 +8,11 @@ use Rattle.slot.specs.Layout.{readCapacity}
 use Rattle.slot.proofs.Laws.Fields.{joined-fields}
 use Rattle.rules.specs.Model.{controller}
 use Rattle.rules.specs.State.{slotAt}
-use Rattle.rules.specs.Layout.{lay, stateOf}
+use Rattle.rules.specs.Layout.{lay}
+use Rattle.area.specs.Good.{stateIn}
 use Rattle.ways.proofs.Fields.{fields}
-use Rattle.ways.proofs.Done.{refuses}
-use Rattle.ways.proofs.OpeningLaws.Did.{stored, storable}
-use Rattle.ways.proofs.OpeningLaws.Known.{known}
-use Rattle.ways.proofs.OpeningLaws.Next.{joined-next}
-use Rattle.opening.proofs.Ways.{shared-9, shared-held, shared-newer, shared-0}
+use Rattle.ways.proofs.Done.{refuses, leaves}
+use Rattle.opening.proofs.Ways.{joined-stands, shared-9, shared-held, shared-newer, shared-0}
 use Rattle.opening.proofs.read_shared.Statement.{statement}
 use Rattle.opening.proofs.read_shared.Tie as tie
 
@@ -31,10 +29,10 @@ returns : tie.Need-returns
 returns c =
     let start = let c : tie.Start = search in c in
     let fields-at = let c : tie.After-fields-at = search in c .fields-at .ensures in
-    let v = lay (slotAt (stateOf controller (start .args .s .now)) (start .args .i)) in
+    let v = lay (slotAt (stateIn (start .args .s .now)) (start .args .i)) in
     let f = fields v fields-at in
     let full : readCapacity ≤ v .readcount = omega (arith, (c .if1 .taken)) in
-    refuses _ (shared-9 controller _ _ _ refl _ full)
+    refuses _ (shared-9 controller _ _ refl _ full)
 
 held-by-other-requires : tie.Need-held-by-other-requires
 held-by-other-requires c κs = search needs
@@ -48,10 +46,10 @@ returns-2 c =
     let fields-at = let c : tie.After-fields-at = search in c .fields-at .ensures in
     let if1 = let c : tie.Else1 = search in c .if1 .left in
     let held-by-other = let c : tie.After-held-by-other = search in c .held-by-other .ensures in
-    let v = lay (slotAt (stateOf controller (start .args .s .now)) (start .args .i)) in
+    let v = lay (slotAt (stateIn (start .args .s .now)) (start .args .i)) in
     let f = fields v fields-at in
     let room : v .readcount < readCapacity = omega (arith, if1) in
-    refuses _ (shared-held controller _ _ _ refl _ room _ (start .pre .1 .1) held-by-other (c .if2 .taken))
+    refuses _ (shared-held controller _ _ refl _ room _ (start .pre .1 .1) held-by-other (c .if2 .taken))
 
 same-length-3 : tie.Need-same-length-3
 same-length-3 c = search needs
@@ -63,11 +61,11 @@ returns-3 c =
     let if1 = let c : tie.Else1 = search in c .if1 .left in
     let held-by-other = let c : tie.After-held-by-other = search in c .held-by-other .ensures in
     let if2 = let c : tie.Else2 = search in c .if2 .left in
-    let v = lay (slotAt (stateOf controller (start .args .s .now)) (start .args .i)) in
+    let v = lay (slotAt (stateIn (start .args .s .now)) (start .args .i)) in
     let f = fields v fields-at in
     let room : v .readcount < readCapacity = omega (arith, if1) in
     let newer : v .start < (start .args .x) .stamp = omega (arith, (c .if3 .taken)) in
-    refuses _ (shared-newer controller _ _ _ refl _ room _ (start .pre .1 .1) held-by-other if2 newer)
+    refuses _ (shared-newer controller _ _ refl _ room _ (start .pre .1 .1) held-by-other if2 newer)
 
 joined-requires : tie.Need-joined-requires
 joined-requires c κs = search needs
@@ -77,13 +75,13 @@ store-read-requires c κs =
     let start = let c : tie.Start = search in c in
     let fields-at = let c : tie.After-fields-at = search in c .fields-at .ensures in
     let if1 = let c : tie.Else1 = search in c .if1 .left in
-    let v = lay (slotAt (stateOf controller (start .args .s .now)) (start .args .i)) in
+    let v = lay (slotAt (stateIn (start .args .s .now)) (start .args .i)) in
     let f = fields v fields-at in
     let room : v .readcount < readCapacity = omega (arith, if1) in
-    let k = known (start .pre .0 .0) (start .pre .0 .1) refl in
+    let x = slotAt (stateIn (start .args .s .now)) (start .args .i) in
     let next = (c .joined .ensures) in
     let count = ap (λ (u : SlotRecord). u .readcount) next in
-    (((start .pre .0 .0), (start .pre .0 .1), omega arith, omega arith), storable (joined-next k (start .pre .1 .0) _ room (joined-fields v fields-at _ room next)))
+    (((start .pre .0 .0), (start .pre .0 .1), omega arith, omega arith), joined-stands x v refl (start .pre .1 .0) _ room (joined-fields v fields-at _ room next) .kept)
 
 value-of-requires : tie.Need-value-of-requires
 value-of-requires c κs = search needs
@@ -101,13 +99,12 @@ returns-4 c =
     let if3 = let c : tie.Else3 = search in c .if3 .left in
     let joined = let c : tie.After-joined = search in c .joined .ensures in
     let store-read = let c : tie.After-store-read = search in c .store-read .ensures in
-    let v = lay (slotAt (stateOf controller (start .args .s .now)) (start .args .i)) in
+    let v = lay (slotAt (stateIn (start .args .s .now)) (start .args .i)) in
     let f = fields v fields-at in
     let room : v .readcount < readCapacity = omega (arith, if1) in
-    let k = known (start .pre .0 .0) (start .pre .0 .1) refl in
     let older : (start .args .x) .stamp ≤ v .start = omega (arith, if3) in
-    stored _ _ _ (shared-0 controller _ _ _ refl _ room _ (start .pre .1 .1) held-by-other if2 older (c .value-of .ensures))
-    (joined-next k (start .pre .1 .0) _ room (joined-fields v fields-at _ room joined)) store-read
+    leaves _ (shared-0 controller _ _ refl _ room _ (start .pre .1 .1) held-by-other if2 older (c .value-of .ensures)
+    (start .pre .1 .0) (joined-fields v fields-at _ room joined)) store-read
 
 pub read-shared-spec : {M : Type 1} → statement M
 read-shared-spec =

@@ -4,7 +4,7 @@ use mathlib.Core.Path.{refl}
 use Rattle.rules.specs.Model.{controller}
 use Rattle.ways.proofs.Fields.{other, same}
 use Rattle.ways.proofs.Done.{refuses, keeps}
-use Rattle.twilight.proofs.Entry.{ask-4, ask-5, ask-8, ask-0}
+use Rattle.twilight.proofs.Ways.{ask-4, ask-5, ask-8, ask-0}
 use Rattle.twilight.proofs.ask.Statement.{statement}
 use Rattle.twilight.proofs.ask.Tie as tie
 
@@ -15,7 +15,7 @@ same-length : tie.Need-same-length
 same-length c = search needs
 
 returns : tie.Need-returns
-returns c = refuses _ (ask-4 controller _ _ _ refl (other (c .before .phase-at .ensures) (c .if1 .taken)))
+returns c = refuses _ (ask-4 controller _ _ _ (other (c .before .phase-at .ensures) (c .if1 .taken)))
 
 count-requires : tie.Need-count-requires
 count-requires c κs = search needs
@@ -28,7 +28,7 @@ returns-2 c =
     let phase-at = let c : tie.After-phase-at = search in c .phase-at .ensures in
     let if1 = let c : tie.Else1 = search in c .if1 .left in
     let count = let c : tie.After-count = search in c .count .ensures in
-    refuses _ (ask-5 controller _ _ _ refl (same phase-at if1) count (c .if2 .taken))
+    refuses _ (ask-5 controller _ _ refl (same phase-at if1) _ count (c .if2 .taken))
 
 find-read-requires : tie.Need-find-read-requires
 find-read-requires c κs = search needs
@@ -49,7 +49,7 @@ returns-3 c =
     let count = let c : tie.After-count = search in c .count .ensures in
     let if2 = let c : tie.Else2 = search in c .if2 .left in
     let find-read = let c : tie.After-find-read = search in c .find-read .ensures in
-    refuses _ (ask-8 controller _ _ _ refl (same phase-at if1) count if2 find-read (c .enum-told .given .1))
+    refuses _ (ask-8 controller _ _ refl (same phase-at if1) _ count if2 find-read (c .enum-told .given .1))
 
 same-length-4 : tie.Need-same-length-4
 same-length-4 c = search needs
@@ -63,7 +63,7 @@ returns-4 c =
     let if2 = let c : tie.Else2 = search in c .if2 .left in
     let find-read = let c : tie.After-find-read = search in c .find-read .ensures in
     let e = let c : tie.After-e = search in c .e .given in
-    keeps _ (start .pre .0) (ask-0 controller _ _ _ refl (same phase-at if1) count if2 find-read (e .1))
+    keeps _ (start .pre .0) (ask-0 controller _ _ refl (same phase-at if1) _ count if2 find-read (e .1))
 
 pub ask-spec : {M : Type 1} → statement M
 ask-spec =

@@ -6,9 +6,8 @@ use Rattle.rules.specs.Model.{controller}
 use Rattle.rules.specs.State.{slotAt}
 use Rattle.area.specs.Good.{stateIn}
 use Rattle.ways.proofs.Fields.{other, same}
-use Rattle.twilight.proofs.Commit.{ignore-4, ignore-0, ignore-none}
 use Rattle.ways.proofs.Done.{refuses, leaves, keeps}
-use Rattle.ways.proofs.ZoneLaws.Record.{ignoring-stands}
+use Rattle.twilight.proofs.Ways.{ignoring-stands, ignore-4, ignore-0, ignore-none}
 use Rattle.twilight.proofs.ignore.Statement.{statement}
 use Rattle.twilight.proofs.ignore.Tie as tie
 
@@ -19,7 +18,7 @@ same-length : tie.Need-same-length
 same-length c = search needs
 
 returns : tie.Need-returns
-returns c = refuses _ (ignore-4 controller _ _ refl (other (c .before .phase-at .ensures) (c .if1 .taken)))
+returns c = refuses _ (ignore-4 controller _ _ (other (c .before .phase-at .ensures) (c .if1 .taken)))
 
 some-marked-requires : tie.Need-some-marked-requires
 some-marked-requires c κs = search needs

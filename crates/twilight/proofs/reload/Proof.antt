@@ -9,8 +9,7 @@ use Rattle.rules.specs.Layout.{lay}
 use Rattle.area.specs.Good.{stateIn}
 use Rattle.ways.proofs.Fields.{other, same}
 use Rattle.ways.proofs.Done.{refuses, leaves}
-use Rattle.ways.proofs.ZoneLaws.Record.{reloaded-stands}
-use Rattle.twilight.proofs.Stamp.{reload-4, reload-11, reload-12, reload-0}
+use Rattle.twilight.proofs.Ways.{reloaded-stands, reload-4, reload-11, reload-12, reload-0}
 use Rattle.twilight.proofs.reload.Statement.{statement}
 use Rattle.twilight.proofs.reload.Tie as tie
 
@@ -21,7 +20,7 @@ same-length : tie.Need-same-length
 same-length c = search needs
 
 returns : tie.Need-returns
-returns c = refuses _ (reload-4 controller _ _ refl (other (c .before .phase-at .ensures) (c .if1 .taken)))
+returns c = refuses _ (reload-4 controller _ _ (other (c .before .phase-at .ensures) (c .if1 .taken)))
 
 first-obstacle-requires : tie.Need-first-obstacle-requires
 first-obstacle-requires c κs = search needs
@@ -80,7 +79,7 @@ store-reads-clock-requires c κs =
     let reloaded′ = let c : tie.After-reloaded = search in c .reloaded .ensures in
     let S = stateIn (start .args .s .now) in
     let v = lay (slotAt S (start .args .i)) in
-    let kept = reloaded-stands (slotAt S (start .args .i)) v refl (reloaded S) reloaded-reads (same phase-at if1) (reloaded-alone v fields-at reloaded′) .kept in
+    let kept = reloaded-stands (slotAt S (start .args .i)) v refl (same phase-at if1) (reloaded S) reloaded-reads (reloaded-alone v fields-at reloaded′) .kept in
     (((start .pre .0), (start .pre .1)), kept)
 
 same-length-4 : tie.Need-same-length-4

@@ -5,7 +5,7 @@ use Rattle.rules.proofs.AreaRead.{count-read}
 use Rattle.rules.specs.Model.{controller}
 use Rattle.ways.proofs.Fields.{other, same}
 use Rattle.ways.proofs.Done.{refuses, keeps}
-use Rattle.twilight.proofs.Entry.{reread-4, reread-5, reread-8, reread-0}
+use Rattle.twilight.proofs.Ways.{reread-4, reread-5, reread-8, reread-0}
 use Rattle.twilight.proofs.reread.Statement.{statement}
 use Rattle.twilight.proofs.reread.Tie as tie
 
@@ -16,7 +16,7 @@ same-length : tie.Need-same-length
 same-length c = search needs
 
 returns : tie.Need-returns
-returns c = refuses _ (reread-4 controller _ _ _ refl (other (c .before .phase-at .ensures) (c .if1 .taken)))
+returns c = refuses _ (reread-4 controller _ _ _ (other (c .before .phase-at .ensures) (c .if1 .taken)))
 
 count-requires : tie.Need-count-requires
 count-requires c κs = search needs
@@ -29,7 +29,7 @@ returns-2 c =
     let phase-at = let c : tie.After-phase-at = search in c .phase-at .ensures in
     let if1 = let c : tie.Else1 = search in c .if1 .left in
     let count = let c : tie.After-count = search in c .count .ensures in
-    refuses _ (reread-5 controller _ _ _ refl (same phase-at if1) count (c .if2 .taken))
+    refuses _ (reread-5 controller _ _ refl (same phase-at if1) _ count (c .if2 .taken))
 
 find-read-requires : tie.Need-find-read-requires
 find-read-requires c κs = search needs
@@ -50,7 +50,7 @@ returns-3 c =
     let count = let c : tie.After-count = search in c .count .ensures in
     let if2 = let c : tie.Else2 = search in c .if2 .left in
     let find-read = let c : tie.After-find-read = search in c .find-read .ensures in
-    refuses _ (reread-8 controller _ _ _ refl (same phase-at if1) count if2 find-read (c .enum-told .given .1))
+    refuses _ (reread-8 controller _ _ refl (same phase-at if1) _ count if2 find-read (c .enum-told .given .1))
 
 cell-at-requires : tie.Need-cell-at-requires
 cell-at-requires c κs =
@@ -76,7 +76,7 @@ returns-4 c =
     let e = let c : tie.After-e = search in c .e .given in
     let cell-at = let c : tie.After-cell-at = search in c .cell-at .ensures in
     keeps _ (start .pre .0)
-    (reread-0 controller _ _ _ refl (same phase-at if1) count if2 find-read (e .1) cell-at (c .value-of .ensures))
+    (reread-0 controller _ _ refl (same phase-at if1) _ count if2 find-read (e .1) cell-at (c .value-of .ensures))
 
 pub reread-spec : {M : Type 1} → statement M
 reread-spec =
