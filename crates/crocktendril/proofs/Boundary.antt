@@ -22,7 +22,7 @@ use Rattle.rules.specs.Layout.{stateOf}
 use Rattle.rules.specs.AreaRight.{wellFormed}
 use Rattle.rules.specs.Area.{answered, stepOnBytes}
 use Rattle.history.proofs.Keeps.OnBytes.{answered-reply}
-use Rattle.twilight.specs.Did.{Did}
+use Rattle.ways.specs.Did.{Did}
 use Rattle.crocktendril.specs.Contract.{Stepped}
 
 -- a step number outside 1 to 14 decodes to no step, so the test of the number and the decoding say the same

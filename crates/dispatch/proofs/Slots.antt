@@ -17,7 +17,7 @@ use Rattle.call.specs.declared.Decoded.the-variants.{Made, IllegalWrite, Illega
 use Rattle.call.proofs.Decoded.{the-type}
 use Rattle.rules.specs.State.{State}
 use Rattle.rules.specs.Step.{stepOf}
-use Rattle.twilight.specs.Did.{Did}
+use Rattle.ways.specs.Did.{Did}
 use Rattle.dispatch.specs.Without.{withoutStep}
 
 -- a refusal changes nothing

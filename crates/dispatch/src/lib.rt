@@ -4,13 +4,11 @@ ghost use Rattle.rules.specs.Model.{controller};
 ghost use Rattle.rules.specs.Layout.{stateOf};
 ghost use Rattle.rules.specs.Step as rule;
 ghost use Rattle.area.specs.Good.{Good};
-ghost use Rattle.twilight.specs.Did.{Did};
+ghost use Rattle.ways.specs.Did.{Did};
 ghost use Rattle.dispatch.specs.Without.{withoutStep};
 use call::Decoded;
 use call::Reply;
 use call::Step;
-use twilight::opening;
-use twilight::zone;
 
 // A step of slot `i`, counted from 0, by its row.
 fn row(s: &mut [u8], i: u8, step: Step) -> Reply
@@ -20,18 +18,18 @@ fn row(s: &mut [u8], i: u8, step: Step) -> Reply
     match step {
         Step::Begin => opening::begin(s, i),
         Step::Read(cell) => opening::read(s, i, cell),
-        Step::Write(cell, to) => opening::write(s, i, cell, to),
+        Step::Write(cell, to) => writing::write(s, i, cell, to),
         Step::Close => opening::close(s, i),
-        Step::Lock => opening::lock(s, i),
-        Step::Enter => zone::enter(s, i),
-        Step::Reread(cell) => zone::reread(s, i, cell),
-        Step::Update(cell, to) => zone::update(s, i, cell, to),
-        Step::Ask(cell) => zone::ask(s, i, cell),
-        Step::Reload => zone::reload(s, i),
-        Step::Ignore => zone::ignore(s, i),
-        Step::Finish => zone::finish(s, i),
-        Step::Publish => zone::publish(s, i),
-        Step::GiveUp => opening::give_up(s, i),
+        Step::Lock => locking::lock(s, i),
+        Step::Enter => locking::enter(s, i),
+        Step::Reread(cell) => twilight::reread(s, i, cell),
+        Step::Update(cell, to) => writing::update(s, i, cell, to),
+        Step::Ask(cell) => twilight::ask(s, i, cell),
+        Step::Reload => twilight::reload(s, i),
+        Step::Ignore => twilight::ignore(s, i),
+        Step::Finish => ending::finish(s, i),
+        Step::Publish => ending::publish(s, i),
+        Step::GiveUp => ending::give_up(s, i),
     }
 }
 
@@ -48,7 +46,7 @@ fn without_step(s: &mut [u8], slot: u8, d: Decoded) -> Reply
             if 8 < slot {
                 return Reply::NoSuchSlot;
             }
-            opening::illegal_write(s, slot - 1, cell)
+            writing::illegal_write(s, slot - 1, cell)
         }
         Decoded::IllegalUpdate(cell) => {
             if slot == 0 {
@@ -57,7 +55,7 @@ fn without_step(s: &mut [u8], slot: u8, d: Decoded) -> Reply
             if 8 < slot {
                 return Reply::NoSuchSlot;
             }
-            zone::illegal_update(s, slot - 1, cell)
+            writing::illegal_update(s, slot - 1, cell)
         }
         Decoded::Made(_) => Reply::NoSuchStep,
         Decoded::Unknown => Reply::NoSuchStep,

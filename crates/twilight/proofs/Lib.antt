@@ -1,6 +1,1 @@
-pub mod Done
-pub mod Found
-pub mod Fields
-pub mod OpeningLaws
-pub mod ZoneLaws
-pub mod Unique
+pub mod Ways

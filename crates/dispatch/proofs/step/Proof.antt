@@ -16,15 +16,21 @@ same-length c = search needs
 
 returns : tie.Need-returns
 returns c =
-    rw (not-made _ _ _ (c .before .before .before .before .match .keys2)) (c .before .before .without-step .ensures)
+    let match = let c : tie.At-match-keys2 = search in c .match .keys2 in
+    let without-step = let c : tie.After-without-step = search in c .without-step .ensures in
+    rw (not-made _ _ _ match) without-step
 
 returns-2 : tie.Need-returns-2
 unfolding stepOf
-returns-2 c = rw (c .before .before .d .given .1) (slot-zero _ _ _ (c .if1 .taken))
+returns-2 c =
+    let d = let c : tie.After-d = search in c .d .given in
+    rw (d .1) (slot-zero _ _ _ (c .if1 .taken))
 
 returns-3 : tie.Need-returns-3
 unfolding stepOf
-returns-3 c = rw (c .before .before .before .d .given .1) (slot-high _ _ _ (c .if2 .taken))
+returns-3 c =
+    let d = let c : tie.After-d = search in c .d .given in
+    rw (d .1) (slot-high _ _ _ (c .if2 .taken))
 
 sub-row : tie.Need-sub-row
 sub-row c = search needs
@@ -38,9 +44,13 @@ same-length-2 c = search needs
 returns-4 : tie.Need-returns-4
 unfolding stepOf
 returns-4 c =
-    rw (c .before .before .before .before .before .before .before .d .given .1)
-    (slot-inside _ _ _ _ _ (c .before .before .before .before .before .if1 .left) (c .before .before .before .before .if2 .left)
-    (rw sub-one at (c .before .before .row .ensures)))
+    let d = let c : tie.After-d = search in c .d .given in
+    let if1 = let c : tie.Else1 = search in c .if1 .left in
+    let if2 = let c : tie.Else2 = search in c .if2 .left in
+    let row = let c : tie.After-row = search in c .row .ensures in
+    rw (d .1)
+    (slot-inside _ _ _ _ _ if1 if2
+    (rw sub-one at row))
 
 pub step-spec : {M : Type 1} → statement M
 step-spec =

@@ -1,7 +1,0 @@
--- The laws of the steps from enter to publish.
-pub mod Phase
-pub mod Record
-pub mod Stamp
-pub mod Entry
-pub mod Commit
-pub mod Right
