@@ -1,6 +1,8 @@
 pub mod Open
 pub mod Edges
 pub mod SheetS
+pub mod Cases
+pub mod Codes
 pub mod LayView
 pub mod Zeros
 pub mod SlotPlace
