@@ -3,16 +3,16 @@ use mathlib.Core.Bool.{Bool, true, false, not, cond}
 use mathlib.Core.List.{List}
 use mathlib.Core.Option.{Option, none, some}
 use mathlib.Core.Path.{_≡_, refl, _∙_, ap}
-use Prim.Native.Nat.{ℕ, zero, suc, pred, _≤_}
+use Prim.Native.Nat.{ℕ, zero, suc, pred, _<_}
 use native.Mathlib.Omega.{arith}
-use borrow.Author.Tests.{leb-true, leb-false, le-ltb, lt-ltb, not-false}
+use borrow.Author.Tests.{leb-true, leb-false, le-ltb, lt-ltb, le-leb, lt-leb, not-false}
 use lib.Dec.{eqb, ltb, leb}
 use lib.ListN.{length, getD}
 use Rattle.value.specs.Legal.{legalWord}
 use Rattle.value.specs.Value.{kindOf, wordOf, valueOf, parsed}
 use Rattle.value.proofs.RoundTrip.{kind-back, word-back}
 use Rattle.call.specs.declared.Reply.{Reply}
-use Rattle.call.specs.declared.Reply.the-variants.{NoSuchStep, NoSuchSlot, NotAllowed, NoSuchCell, IllegalValue, NotInLog, OtherKind, LogFull, ReadHeld, ReadNewer, LockHeld, LastStamp}
+use Rattle.call.specs.declared.Reply.the-variants.{NotWellFormed, NoSuchStep, NoSuchSlot, NotAllowed, NoSuchCell, IllegalValue, NotInLog, OtherKind, LogFull, ReadHeld, ReadNewer, LockHeld, LastStamp}
 use Rattle.call.specs.Answer.{replyCode}
 use Rattle.call.specs.Decode.{decoded}
 use Rattle.slot.specs.declared.ReadEntry.{ReadEntry}
@@ -29,10 +29,13 @@ use Rattle.rules.specs.Cells.{heldByOther, newer, obstacle}
 use Rattle.rules.specs.Outcome.{Outcome, refused, accepted, refuseIf, insideCells, fittingValue, inLog, foundOr, belowLastStamp}
 use Rattle.rules.specs.Steps.{begin, readShared, read, write, illegalWrite, close, lock, enter, reread, update, illegalUpdate, ask, reload, ignore, finish, publish, giveUp}
 use Rattle.rules.specs.Step.{Call, insideSlots, stepOf, step}
+use Rattle.rules.specs.Layout.{stateOf}
+use Rattle.rules.specs.AreaRight.{wellFormed}
+use Rattle.rules.specs.Area.{answered, stepOnBytes}
 use Rattle.rules.specs.Run.{call}
 use Rattle.rules.specs.Allowed.{Row, allowed}
 use Rattle.rules.proofs.Cases.{cond-case, found-case, log-case, idle-case, open-case, locking-case, twilight-case, publishing-case, uncommitted-case}
-use Rattle.rules.specs.Codes.{stepOutside, slotOutside, notAllowed, cellOutside, valueIllegal, kindDiffers, notInLog, logFull, readConflicts, cellHeld, stampsSpent, outcomeCode, codeTable, Ending, refusal, outcome, ending, firstOf, tableEnding, LowestCode}
+use Rattle.rules.specs.Codes.{stepOutside, slotOutside, notAllowed, cellOutside, valueIllegal, kindDiffers, notInLog, logFull, readConflicts, cellHeld, stampsSpent, outcomeCode, codeTable, Ending, refusal, outcome, endingCode, ending, firstOf, tableEnding, LowestCode}
 
 -- opens the table and the way from a call to its row
 unfoldable table : ℕ
@@ -225,3 +228,60 @@ module _ (M : Model) (S : State) (slot c kind word : ℕ) where
   give-up-row : AsTable 14 (giveUp M S i)
   unfolding table giveUp
   give-up-row = inside _ _ (uncommitted-case (Ends _) (slotAt S i) _ (λ p. rw p) λ p. rw p)
+
+  -- a write or an update, with a value and without
+  abbrev Numbered : ℕ → Type 0
+  Numbered number = Ends (tableEnding M S (call number slot c kind word)) (step M S (call number slot c kind word))
+
+  with-write : (t : Bool) → legalWord kind word ≡ t → Numbered 3
+  unfolding step stepOf decoded parsed _and_
+  with-write true legal = rw legal (write-row legal)
+  with-write false illegal = rw illegal (illegal-write-row illegal)
+
+  with-update : (t : Bool) → legalWord kind word ≡ t → Numbered 8
+  unfolding step stepOf decoded parsed _and_
+  with-update true legal = rw legal (update-row legal)
+  with-update false illegal = rw illegal (illegal-update-row illegal)
+
+  outside : (number : ℕ) → 14 < number → Numbered number
+  unfolding table
+  outside number far = rw (le-leb 1 number (omega arith), lt-leb number 14 far)
+
+  numbered : (number : ℕ) → Numbered number
+  unfolding table
+  numbered zero = refl
+  numbered (suc zero) = begin-row
+  numbered (suc (suc zero)) = read-row
+  numbered (suc (suc (suc zero))) = with-write (legalWord kind word) refl
+  numbered (suc (suc (suc (suc zero)))) = close-row
+  numbered (suc (suc (suc (suc (suc zero))))) = lock-row
+  numbered (suc (suc (suc (suc (suc (suc zero)))))) = enter-row
+  numbered (suc (suc (suc (suc (suc (suc (suc zero))))))) = reread-row
+  numbered (suc (suc (suc (suc (suc (suc (suc (suc zero)))))))) = with-update (legalWord kind word) refl
+  numbered (suc (suc (suc (suc (suc (suc (suc (suc (suc zero))))))))) = ask-row
+  numbered (suc (suc (suc (suc (suc (suc (suc (suc (suc (suc zero)))))))))) = reload-row
+  numbered (suc (suc (suc (suc (suc (suc (suc (suc (suc (suc (suc zero))))))))))) = ignore-row
+  numbered (suc (suc (suc (suc (suc (suc (suc (suc (suc (suc (suc (suc zero)))))))))))) = finish-row
+  numbered (suc (suc (suc (suc (suc (suc (suc (suc (suc (suc (suc (suc (suc zero))))))))))))) = publish-row
+  numbered (suc (suc (suc (suc (suc (suc (suc (suc (suc (suc (suc (suc (suc (suc zero)))))))))))))) = give-up-row
+  numbered (suc (suc (suc (suc (suc (suc (suc (suc (suc (suc (suc (suc (suc (suc (suc n))))))))))))))) = outside (suc (suc (suc (suc (suc (suc (suc (suc (suc (suc (suc (suc (suc (suc (suc n))))))))))))))) (omega arith)
+
+-- the code that an area's answer has
+answer-code : (M : Model) (bytes : List ℕ) (o : Outcome) → replyCode (answered M bytes o .reply) ≡ endingCode (ending o)
+answer-code M bytes (refused r) = refl
+answer-code M bytes (accepted r T) = refl
+
+on-bytes : (M : Model) (bytes : List ℕ) (right : Bool) (o : Outcome) (e : Ending) → Ends e o
+    → replyCode (cond right (answered M bytes o) (record { reply = NotWellFormed; bytes = bytes }) .reply) ≡ cond right (endingCode e) 1
+on-bytes M bytes true o e f = answer-code M bytes o ∙ ap endingCode f
+on-bytes M bytes false o e f = refl
+
+pub lowest-code : (M : Model) → LowestCode M
+unfolding stepOnBytes pairwise all _and_
+lowest-code M =
+    let given : (S : State) (a : Call) → Ends (tableEnding M S a) (step M S a) = λ S a. numbered M S (a .slot) (a .cell) (a .kind) (a .word) (a .step) in
+    record {
+      given = given;
+      onBytes = λ bytes a. on-bytes M bytes (wellFormed M bytes) (step M (stateOf M bytes) a) _ (given (stateOf M bytes) a);
+      ascending = λ S a. refl;
+    }
