@@ -35,7 +35,8 @@ use Rattle.rules.specs.Area.{answered, stepOnBytes}
 use Rattle.rules.specs.Run.{call}
 use Rattle.rules.specs.Allowed.{Row, allowed}
 use Rattle.rules.proofs.Cases.{cond-case, found-case, log-case, idle-case, open-case, locking-case, twilight-case, publishing-case, uncommitted-case}
-use Rattle.rules.specs.Codes.{stepOutside, slotOutside, notAllowed, cellOutside, valueIllegal, kindDiffers, notInLog, logFull, readConflicts, cellHeld, stampsSpent, outcomeCode, codeTable, Ending, refusal, outcome, endingCode, ending, firstOf, tableEnding, LowestCode}
+use Rattle.rules.specs.Codes.{stepOutside, slotOutside, notAllowed, cellOutside, valueIllegal, kindDiffers, notInLog, logFull, readConflicts, cellHeld, stampsSpent, outcomeCode, Ending, refusal, outcome, endingCode, firstOf, tableEnding}
+use Rattle.rules.specs.LowestCode.{ending, LowestCode}
 
 -- opens the table and the way from a call to its row
 unfoldable table : ℕ

@@ -1,29 +1,23 @@
 -- "Codes, and which comes first": the table of codes 2 to 12, in the order in which they are tested. Each row says for itself when its code is given, of any state
 -- and of a call of any five numbers, in the table's words: none looks at what a step does. Code 1 stands before them all, at `stepOnBytes`.
-use mathlib.Core.Bool.{Bool, true, not, cond}
+use mathlib.Core.Bool.{Bool, not, cond}
 use mathlib.Core.List.{List, [], _∷_}
-use mathlib.Core.Path.{_≡_}
 use Prim.Native.Nat.{ℕ, pred}
-use lib.Dec.{eqb, ltb, leb}
+use lib.Dec.{eqb, leb}
 use lib.ListN.{length, getD}
 use Rattle.value.specs.Legal.{legalWord}
-use Rattle.call.specs.Answer.{replyCode}
 use Rattle.slot.specs.declared.ReadEntry.{ReadEntry}
 use Rattle.slot.specs.Layout.{readCapacity, writeCapacity, noWrite}
-use Rattle.slot.specs.Logic.{_and_, _or_, any, pairwise}
+use Rattle.slot.specs.Logic.{_and_, _or_, any}
 use Rattle.slot.specs.Logs.{readsCell, writesCell, someMarked}
 use Rattle.rules.specs.Model.{Model, lastStamp, lastStep}
 use Rattle.rules.specs.State.{State, Slot, cellCount, cellAt, slotAt, readsOf, writesOf, startOf, takenOf, ignoringOf}
 use Rattle.rules.specs.Cells.{heldByOther, newer}
-use Rattle.rules.specs.Outcome.{Outcome, refused, accepted}
-use Rattle.rules.specs.Step.{Call, step}
-use Rattle.rules.specs.Layout.{stateOf}
-use Rattle.rules.specs.AreaRight.{wellFormed}
-use Rattle.rules.specs.Area.{stepOnBytes}
-use Rattle.rules.specs.Allowed.{Row, _when_, rowNumber, allowed}
+use Rattle.rules.specs.Step.{Call}
+use Rattle.rules.specs.Allowed.{Row, _when_, allowed}
 
 module _ (M : Model) (S : State) (a : Call) where
-  -- its slot, and whether a cell is held by another. A state counts slots from 0.
+  -- the call's slot, and whether a cell is held by another one. A state counts slots from 0.
   abbrev own : Slot
   own = slotAt S (pred (a .slot))
 
@@ -96,7 +90,7 @@ module _ (M : Model) (S : State) (a : Call) where
   unfoldable pub notInLog : Bool
   notInLog = (isReread or isAsk) and not inReadLog or isUpdate and not inWriteLog
 
-  -- 9: read or write needs a new entry and that log has 16
+  -- 9: read or write needs a new entry and that log has 16 (more than 16 is never well formed)
   unfoldable pub logFull : Bool
   logFull =
       readsShared and leb readCapacity (length (readsOf own))
@@ -135,7 +129,7 @@ module _ (M : Model) (S : State) (a : Call) where
   unfoldable pub outcomeCode : ℕ
   outcomeCode = cond (isFinish and someMarked (readsOf own) and not (ignoringOf own)) 13 0
 
--- how a step ends: refused with a code, or accepted with code 0 or 13
+-- how a call ends by the table: refused with a code, or accepted with code 0 or 13
 pub data Ending : Type 0 where
   refusal : (code : ℕ) → Ending
   outcome : (code : ℕ) → Ending
@@ -144,23 +138,10 @@ abbrev pub endingCode : Ending → ℕ
 endingCode (refusal code) = code
 endingCode (outcome code) = code
 
-abbrev pub ending : Outcome → Ending
-ending (refused r) = refusal (replyCode r)
-ending (accepted r T) = outcome (replyCode r)
-
--- by the table: the first row that applies refuses with its code, "and none is given otherwise"
+-- the first row that applies refuses, "and none is given otherwise"
 unfoldable pub firstOf : List Row → Ending → Ending
 firstOf [] otherwise = otherwise
 firstOf (code when applies ∷ rows) otherwise = cond applies (refusal code) (firstOf rows otherwise)
 
 unfoldable pub tableEnding : Model → State → Call → Ending
 tableEnding M S a = firstOf (codeTable M S a) (outcome (outcomeCode M S a))
-
-pub record LowestCode (M : Model) : Type 0 where
-  -- Every step ends as the table says, from any state.
-  pub given : (S : State) (a : Call) → ending (step M S a) ≡ tableEnding M S a
-  -- On any bytes: code 1 if they are not well formed, else the table's code for the state in them.
-  pub onBytes : (bytes : List ℕ) (a : Call)
-      → replyCode (stepOnBytes M bytes a .reply) ≡ cond (wellFormed M bytes) (endingCode (tableEnding M (stateOf M bytes) a)) 1
-  -- The first code that applies is the lowest: the rows ascend by code.
-  pub ascending : (S : State) (a : Call) → pairwise (λ (r q : Row). ltb (rowNumber r) (rowNumber q)) (codeTable M S a) ≡ true

@@ -12,6 +12,8 @@ pub mod Area
 pub mod RoundTrip
 pub mod Allowed
 pub mod Codes
+pub mod LowestCode
 pub mod Run
 pub mod Edges
 pub mod SheetS
+pub mod Blocked
