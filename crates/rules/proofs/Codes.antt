@@ -88,9 +88,9 @@ none-missing true o e f = refl
 none-missing false o e f = f
 
 module _ (M : Model) (S : State) (slot c kind word : ℕ) where
-  -- a step with this number ends as the table says
-  abbrev AsTable : ℕ → Outcome → Type 0
-  AsTable number o = Ends (tableEnding M S (call number slot c kind word)) (insideSlots M slot o)
+  -- the step with this number ends as the table says
+  abbrev Numbered : ℕ → Type 0
+  Numbered number = Ends (tableEnding M S (call number slot c kind word)) (step M S (call number slot c kind word))
 
   abbrev i : ℕ
   i = pred slot
@@ -110,11 +110,11 @@ module _ (M : Model) (S : State) (slot c kind word : ℕ) where
   stamped : (o : Outcome) (e : Ending) → Ends e o → Ends (cond (eqb (S .clock) (lastStamp M)) (refusal 12) e) (belowLastStamp M S o)
   stamped o e f = tested (eqb (S .clock) (lastStamp M)) LastStamp o e f
 
-  begin-row : AsTable 1 (begin M S i)
+  begin-row : Numbered 1
   unfolding table begin
   begin-row = inside _ _ (idle-case (Ends _) (slotAt S i) _ (λ p. rw p) λ x. rw x)
 
-  read-row : AsTable 2 (read M S i c)
+  read-row : Numbered 2
   unfolding table read readShared
   read-row =
       inside _ _
@@ -128,7 +128,7 @@ module _ (M : Model) (S : State) (slot c kind word : ℕ) where
       (tested-beside (leb readCapacity (length reads)) LogFull _ _
       (conflicts (heldByOther i (cellAt S c)) (newer start (cellAt S c)) (cellAt S c .holder) _ _ refl))))))
 
-  write-row : legalWord kind word ≡ true → AsTable 3 (write M S i c (valueOf kind word))
+  write-row : legalWord kind word ≡ true → Ends (tableEnding M S (call 3 slot c kind word)) (insideSlots M slot (write M S i c (valueOf kind word)))
   unfolding table write
   write-row legal =
       inside _ _
@@ -138,18 +138,18 @@ module _ (M : Model) (S : State) (slot c kind word : ℕ) where
       (fitting legal _ _
       (tested (not (writesCell writes c) and leb writeCapacity (length writes)) LogFull _ _ refl))))
 
-  illegal-write-row : legalWord kind word ≡ false → AsTable 3 (illegalWrite M S i c)
+  illegal-write-row : legalWord kind word ≡ false → Ends (tableEnding M S (call 3 slot c kind word)) (insideSlots M slot (illegalWrite M S i c))
   unfolding table illegalWrite
   illegal-write-row illegal =
       inside _ _
       (open-case (Ends _) (slotAt S i) _ (λ p. rw p) λ start reads writes x.
       rw x (below _ _ (rw illegal)))
 
-  close-row : AsTable 4 (close M S i)
+  close-row : Numbered 4
   unfolding table close
   close-row = inside _ _ (open-case (Ends _) (slotAt S i) _ (λ p. rw p) λ start reads writes x. rw x)
 
-  lock-row : AsTable 5 (lock M S i)
+  lock-row : Numbered 5
   unfolding table lock
   lock-row =
       inside _ _
@@ -157,14 +157,14 @@ module _ (M : Model) (S : State) (slot c kind word : ℕ) where
       let next = getD writes taken noWrite .cell in
       rw x (missing taken (length writes) _ _ (tested-beside (heldByOther i (cellAt S next)) (LockHeld next (cellAt S next .holder)) _ _ refl)))
 
-  enter-row : AsTable 6 (enter M S i)
+  enter-row : Numbered 6
   unfolding table enter
   enter-row =
       inside _ _
       (locking-case (Ends _) (slotAt S i) _ (λ p. rw p) λ taken start reads writes x.
       rw x (none-missing (ltb taken (length writes)) _ _ (stamped _ _ refl)))
 
-  reread-row : AsTable 7 (reread M S i c)
+  reread-row : Numbered 7
   unfolding table reread
   reread-row =
       inside _ _
@@ -173,7 +173,7 @@ module _ (M : Model) (S : State) (slot c kind word : ℕ) where
       (below _ _
       (logged (λ (e : ReadEntry). eqb (e .cell) c) reads _ _ (λ r. rw r) λ e r. rw r)))
 
-  update-row : legalWord kind word ≡ true → AsTable 8 (update M S i c (valueOf kind word))
+  update-row : legalWord kind word ≡ true → Ends (tableEnding M S (call 8 slot c kind word)) (insideSlots M slot (update M S i c (valueOf kind word)))
   unfolding table update
   update-row legal =
       inside _ _
@@ -183,14 +183,14 @@ module _ (M : Model) (S : State) (slot c kind word : ℕ) where
       (fitting legal _ _
       (logged (λ (e : WriteEntry). eqb (e .cell) c) writes _ _ (λ w. rw w) λ e w. rw w))))
 
-  illegal-update-row : legalWord kind word ≡ false → AsTable 8 (illegalUpdate M S i c)
+  illegal-update-row : legalWord kind word ≡ false → Ends (tableEnding M S (call 8 slot c kind word)) (insideSlots M slot (illegalUpdate M S i c))
   unfolding table illegalUpdate
   illegal-update-row illegal =
       inside _ _
       (twilight-case (Ends _) (slotAt S i) _ (λ p. rw p) λ ignoring start commit reads writes x.
       rw x (below _ _ (rw illegal)))
 
-  ask-row : AsTable 9 (ask M S i c)
+  ask-row : Numbered 9
   unfolding table ask
   ask-row =
       inside _ _
@@ -199,7 +199,7 @@ module _ (M : Model) (S : State) (slot c kind word : ℕ) where
       (below _ _
       (logged (λ (e : ReadEntry). eqb (e .cell) c) reads _ _ (λ r. rw r) λ e r. rw r)))
 
-  reload-row : AsTable 10 (reload M S i)
+  reload-row : Numbered 10
   unfolding table reload obstacle
   reload-row =
       inside _ _
@@ -208,32 +208,29 @@ module _ (M : Model) (S : State) (slot c kind word : ℕ) where
       (found (λ (e : ReadEntry). heldByOther i (cellAt S (e .cell))) reads _ _ _ (λ e r. rw r) λ r.
       rw r (stamped _ _ refl)))
 
-  ignore-row : AsTable 11 (ignore M S i)
+  ignore-row : Numbered 11
   unfolding table ignore
   ignore-row =
       inside _ _
       (twilight-case (Ends _) (slotAt S i) _ (λ p. rw p) λ ignoring start commit reads writes x.
       rw x (cond-case (Ends _) (someMarked reads) _ _ (λ m. refl) (λ m. refl)))
 
-  finish-row : AsTable 12 (finish M S i)
+  finish-row : Numbered 12
   unfolding table finish
   finish-row =
       inside _ _
       (twilight-case (Ends _) (slotAt S i) _ (λ p. rw p) λ ignoring start commit reads writes x.
       rw x (cond-case (Ends _) (someMarked reads and not ignoring) _ _ (λ m. rw m) (λ m. rw m)))
 
-  publish-row : AsTable 13 (publish M S i)
+  publish-row : Numbered 13
   unfolding table publish
   publish-row = inside _ _ (publishing-case (Ends _) (slotAt S i) _ (λ p. rw p) λ ignoring taken start commit reads writes x. rw x)
 
-  give-up-row : AsTable 14 (giveUp M S i)
+  give-up-row : Numbered 14
   unfolding table giveUp
   give-up-row = inside _ _ (uncommitted-case (Ends _) (slotAt S i) _ (λ p. rw p) λ p. rw p)
 
   -- a write or an update, with a value and without
-  abbrev Numbered : ℕ → Type 0
-  Numbered number = Ends (tableEnding M S (call number slot c kind word)) (step M S (call number slot c kind word))
-
   with-write : (t : Bool) → legalWord kind word ≡ t → Numbered 3
   unfolding step stepOf decoded parsed _and_
   with-write true legal = rw legal (write-row legal)
@@ -248,9 +245,12 @@ module _ (M : Model) (S : State) (slot c kind word : ℕ) where
   unfolding table
   outside number far = rw (le-leb 1 number (omega arith), lt-leb number 14 far)
 
-  numbered : (number : ℕ) → Numbered number
+  nought : Numbered 0
   unfolding table
-  numbered zero = refl
+  nought = refl
+
+  numbered : (number : ℕ) → Numbered number
+  numbered zero = nought
   numbered (suc zero) = begin-row
   numbered (suc (suc zero)) = read-row
   numbered (suc (suc (suc zero))) = with-write (legalWord kind word) refl
