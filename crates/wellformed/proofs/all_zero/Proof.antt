@@ -32,8 +32,8 @@ loop-less c = omega arith
 
 loop-again : tie.Need-loop-again Inv-loop μ-loop
 loop-again c =
-    let args = c .before .before .before .args in
-    let loop = c .before .before .loop in
+    let args = let c : tie.Start Inv-loop μ-loop = search in c .args in
+    let loop = let c : tie.At-loop Inv-loop μ-loop = search in c .loop in
     (omega arith, zero-next (args .s .now) (args .from) (loop .i) (loop .any) (loop .inv .1))
 
 returns : tie.Need-returns Inv-loop μ-loop

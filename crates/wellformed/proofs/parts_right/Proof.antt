@@ -14,7 +14,10 @@ stamps-apart-requires c κs = search needs
 
 returns : tie.Need-returns
 unfolding partsRight
-returns c = pass _ _ _ (sym (c .before .before .slots-right .ensures) ∙ c .before .if1 .taken) (c .stamps-apart .ensures)
+returns c =
+    let slots-right = let c : tie.After-slots-right = search in c .slots-right .ensures in
+    let if1 = let c : tie.Then1 = search in c .if1 .taken in
+    pass _ _ _ (sym slots-right ∙ if1) (c .stamps-apart .ensures)
 
 returns-2 : tie.Need-returns-2
 unfolding partsRight

@@ -11,7 +11,7 @@ get-requires c κs = search needs
 
 cast-result : tie.Need-cast-result
 cast-result c =
-    let args = c .before .before .args in
+    let args = let c : tie.Start = search in c .args in
     let known = c .before .shared-slice-known in
     let args = args in
     let get = c .get in

@@ -11,7 +11,7 @@ use Rattle.wellformed.proofs.cells.legal_at.Tie as tie
 
 returns : tie.Need-returns
 returns c =
-    let args = c .before .before .args in
+    let args = let c : tie.Start = search in c .args in
     let known = c .before .shared-slice-known in
     legal-whole (args .kind) _ (c .if1 .taken)
     (omega (arith, be-bound 4 (drop (args .at) (args .s .now)) (bytes-drop (args .at) (args .s .now) (λ i. omega (arith, known .given i)))))
@@ -25,7 +25,7 @@ legal-requires c κs = search needs
 returns-2 : tie.Need-returns-2
 returns-2 c =
     let word-at = c .before .word-at in
-    let if2 = c .before .before .if2 .taken in
+    let if2 = let c : tie.Then2 = search in c .if2 .taken in
     c .legal .ensures ∙ ap₂ legalWord (sym if2) (word-at .ensures)
 
 word-at-requires-2 : tie.Need-word-at-requires-2
@@ -37,13 +37,13 @@ legal-requires-2 c κs = search needs
 returns-3 : tie.Need-returns-3
 returns-3 c =
     let word-at2 = c .before .word-at2 in
-    let if3 = c .before .before .if3 .taken in
+    let if3 = let c : tie.Then3 = search in c .if3 .taken in
     c .legal2 .ensures ∙ ap₂ legalWord (sym if3) (word-at2 .ensures)
 
 returns-4 : tie.Need-returns-4
 returns-4 c =
-    let args = c .before .before .before .before .args in
-    let if1 = c .before .before .if1 .left in
+    let args = let c : tie.Start = search in c .args in
+    let if1 = let c : tie.Else1 = search in c .if1 .left in
     legal-none (args .kind) _ if1 (c .before .if2 .left) (c .if3 .left)
 
 pub legal-at-spec : {M : Type 1} → statement M

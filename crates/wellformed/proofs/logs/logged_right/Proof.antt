@@ -20,14 +20,15 @@ legal-at-requires c κs = search needs
 
 returns : tie.Need-returns
 returns c =
-    let args = c .before .before .before .before .before .args in
-    let pre = c .before .before .before .before .before .pre in
-    c .legal-at .ensures ∙ logged-place (args .n) (args .s .now) (pre .0) (args .c) _ (c .before .before .if1 .taken)
+    let if1 = let c : tie.Then1 = search in c .if1 .taken in
+    let args = let c : tie.Start = search in c .args in
+    let pre = let c : tie.Start = search in c .pre in
+    c .legal-at .ensures ∙ logged-place (args .n) (args .s .now) (pre .0) (args .c) _ if1
 
 returns-2 : tie.Need-returns-2
 returns-2 c =
-    let args = c .before .before .before .args in
-    let pre = c .before .before .before .pre in
+    let args = let c : tie.Start = search in c .args in
+    let pre = let c : tie.Start = search in c .pre in
     let if1 = c .if1 .left in
     le-ltb _ _ if1 ∙ logged-past (args .n) (args .s .now) (pre .0) (args .c) _ if1
 

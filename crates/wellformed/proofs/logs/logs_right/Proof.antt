@@ -14,7 +14,10 @@ writes-right-requires c κs = search needs
 
 returns : tie.Need-returns
 unfolding logsRight
-returns c = pass _ _ _ (sym (c .before .before .reads-right .ensures) ∙ c .before .if1 .taken) (c .writes-right .ensures)
+returns c =
+    let reads-right = let c : tie.After-reads-right = search in c .reads-right .ensures in
+    let if1 = let c : tie.Then1 = search in c .if1 .taken in
+    pass _ _ _ (sym reads-right ∙ if1) (c .writes-right .ensures)
 
 returns-2 : tie.Need-returns-2
 unfolding logsRight

@@ -31,7 +31,9 @@ index-requires : tie.Need-index-requires Inv-loop μ-loop
 index-requires c κs = omega arith
 
 loop-holds : tie.Need-loop-holds Inv-loop μ-loop
-loop-holds c = (omega arith, refl, every-start _, seen-start (cellIn (c .before .before .before .before .args .t .now) 21 6))
+loop-holds c =
+    let start = let c : tie.Start Inv-loop μ-loop = search in c in
+    (omega arith, refl, every-start _, seen-start (cellIn (start .args .t .now) 21 6))
 
 mul-at : tie.Need-mul-at Inv-loop μ-loop
 mul-at c = omega arith
@@ -49,13 +51,15 @@ add-logged-right : tie.Need-add-logged-right Inv-loop μ-loop
 add-logged-right c = omega arith
 
 logged-right-requires : tie.Need-logged-right-requires Inv-loop μ-loop
-logged-right-requires c κs = (c .before .before .before .before .before .before .before .before .pre .0, omega arith)
+logged-right-requires c κs =
+    let start = let c : tie.Start Inv-loop μ-loop = search in c in
+    (start .pre .0, omega arith)
 
 returns : tie.Need-returns Inv-loop μ-loop
 returns c =
-    let args = c .before .before .before .before .before .before .before .before .before .before .args in
-    let loop = c .before .before .before .before .before .loop in
-    let index2 = c .before .before .index2 in
+    let args = let c : tie.Start Inv-loop μ-loop = search in c .args in
+    let loop = let c : tie.At-loop Inv-loop μ-loop = search in c .loop in
+    let index2 = let c : tie.After-index2 Inv-loop μ-loop = search in c .index2 in
     let l = args .t .now in
     let cells = cellsIn controller (args .s .now) in
     let i = loop .i in
@@ -66,18 +70,18 @@ returns c =
 
 array-read-if2 : tie.Need-array-read-if2 Inv-loop μ-loop
 array-read-if2 c =
-    let args = c .before .before .before .before .before .before .before .before .before .before .args in
-    let pre = c .before .before .before .before .before .before .before .before .before .before .pre in
-    let index2 = c .before .before .index2 in
+    let args = let c : tie.Start Inv-loop μ-loop = search in c .args in
+    let pre = let c : tie.Start Inv-loop μ-loop = search in c .pre in
+    let index2 = let c : tie.After-index2 Inv-loop μ-loop = search in c .index2 in
     omega (arith, logged-below (args .n) (args .s .now) (pre .0) (index2 .result) _ (passes (c .before .logged-right .ensures) (c .if1 .left)))
 
 returns-2 : tie.Need-returns-2 Inv-loop μ-loop
 returns-2 c =
-    let args = c .before .before .before .before .before .before .before .before .before .before .before .args in
-    let pre = c .before .before .before .before .before .before .before .before .before .before .before .pre in
-    let loop = c .before .before .before .before .before .before .loop in
-    let index2 = c .before .before .before .index2 in
-    let logged-right = c .before .before .logged-right in
+    let args = let c : tie.Start Inv-loop μ-loop = search in c .args in
+    let pre = let c : tie.Start Inv-loop μ-loop = search in c .pre in
+    let loop = let c : tie.At-loop Inv-loop μ-loop = search in c .loop in
+    let index2 = let c : tie.After-index2 Inv-loop μ-loop = search in c .index2 in
+    let logged-right = let c : tie.After-logged-right Inv-loop μ-loop = search in c .logged-right in
     let l = args .t .now in
     let cells = cellsIn controller (args .s .now) in
     let i = loop .i in
@@ -91,10 +95,10 @@ returns-2 c =
 
 array-write-seen : tie.Need-array-write-seen Inv-loop μ-loop
 array-write-seen c =
-    let args = c .before .before .before .before .before .before .before .before .before .before .before .args in
-    let pre = c .before .before .before .before .before .before .before .before .before .before .before .pre in
-    let index2 = c .before .before .before .index2 in
-    let logged-right = c .before .before .logged-right in
+    let args = let c : tie.Start Inv-loop μ-loop = search in c .args in
+    let pre = let c : tie.Start Inv-loop μ-loop = search in c .pre in
+    let index2 = let c : tie.After-index2 Inv-loop μ-loop = search in c .index2 in
+    let logged-right = let c : tie.After-logged-right Inv-loop μ-loop = search in c .logged-right in
     omega (arith, logged-below (args .n) (args .s .now) (pre .0) (index2 .result) _ (passes (logged-right .ensures) (c .before .if1 .left)))
 
 add-i : tie.Need-add-i Inv-loop μ-loop
@@ -105,11 +109,11 @@ loop-less c = omega arith
 
 loop-again : tie.Need-loop-again Inv-loop μ-loop
 loop-again c =
-    let args = c .before .before .before .before .before .before .before .before .before .before .before .args in
-    let pre = c .before .before .before .before .before .before .before .before .before .before .before .pre in
-    let loop = c .before .before .before .before .before .before .loop in
-    let index2 = c .before .before .before .index2 in
-    let logged-right = c .before .before .logged-right in
+    let args = let c : tie.Start Inv-loop μ-loop = search in c .args in
+    let pre = let c : tie.Start Inv-loop μ-loop = search in c .pre in
+    let loop = let c : tie.At-loop Inv-loop μ-loop = search in c .loop in
+    let index2 = let c : tie.After-index2 Inv-loop μ-loop = search in c .index2 in
+    let logged-right = let c : tie.After-logged-right Inv-loop μ-loop = search in c .logged-right in
     let l = args .t .now in
     let cells = cellsIn controller (args .s .now) in
     let i = loop .i in
@@ -126,7 +130,7 @@ loop-again c =
 
 returns-3 : tie.Need-returns-3 Inv-loop μ-loop
 returns-3 c =
-    let args = c .before .before .before .before .before .before .args in
+    let args = let c : tie.Start Inv-loop μ-loop = search in c .args in
     let loop = c .before .loop in
     let l = args .t .now in
     let cells = cellsIn controller (args .s .now) in

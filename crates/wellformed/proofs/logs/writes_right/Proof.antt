@@ -29,7 +29,9 @@ index-requires : tie.Need-index-requires Inv-loop μ-loop
 index-requires c κs = omega arith
 
 loop-holds : tie.Need-loop-holds Inv-loop μ-loop
-loop-holds c = (omega arith, every-start _, least-start (cellIn (c .before .before .before .before .args .t .now) 117 5))
+loop-holds c =
+    let start = let c : tie.Start Inv-loop μ-loop = search in c in
+    (omega arith, every-start _, least-start (cellIn (start .args .t .now) 117 5))
 
 mul-at : tie.Need-mul-at Inv-loop μ-loop
 mul-at c = omega arith
@@ -45,8 +47,8 @@ index-requires-2 c κs = omega arith
 
 returns : tie.Need-returns Inv-loop μ-loop
 returns c =
-    let args = c .before .before .before .before .before .before .before .before .before .args in
-    let loop = c .before .before .before .before .loop in
+    let args = let c : tie.Start Inv-loop μ-loop = search in c .args in
+    let loop = let c : tie.At-loop Inv-loop μ-loop = search in c .loop in
     let index2 = c .before .index2 in
     let l = args .t .now in
     let cells = cellsIn controller (args .s .now) in
@@ -61,13 +63,15 @@ add-logged-right : tie.Need-add-logged-right Inv-loop μ-loop
 add-logged-right c = omega arith
 
 logged-right-requires : tie.Need-logged-right-requires Inv-loop μ-loop
-logged-right-requires c κs = (c .before .before .before .before .before .before .before .before .before .pre .0, omega arith)
+logged-right-requires c κs =
+    let start = let c : tie.Start Inv-loop μ-loop = search in c in
+    (start .pre .0, omega arith)
 
 returns-2 : tie.Need-returns-2 Inv-loop μ-loop
 returns-2 c =
-    let args = c .before .before .before .before .before .before .before .before .before .before .before .args in
-    let loop = c .before .before .before .before .before .before .loop in
-    let index2 = c .before .before .before .index2 in
+    let args = let c : tie.Start Inv-loop μ-loop = search in c .args in
+    let loop = let c : tie.At-loop Inv-loop μ-loop = search in c .loop in
+    let index2 = let c : tie.After-index2 Inv-loop μ-loop = search in c .index2 in
     let l = args .t .now in
     let cells = cellsIn controller (args .s .now) in
     let i = loop .i in
@@ -87,11 +91,11 @@ loop-less c = omega arith
 
 loop-again : tie.Need-loop-again Inv-loop μ-loop
 loop-again c =
-    let args = c .before .before .before .before .before .before .before .before .before .before .before .args in
-    let loop = c .before .before .before .before .before .before .loop in
-    let index2 = c .before .before .before .index2 in
+    let args = let c : tie.Start Inv-loop μ-loop = search in c .args in
+    let loop = let c : tie.At-loop Inv-loop μ-loop = search in c .loop in
+    let index2 = let c : tie.After-index2 Inv-loop μ-loop = search in c .index2 in
     let logged-right = c .before .logged-right in
-    let if1 = c .before .before .if1 .left in
+    let if1 = let c : tie.Else1 Inv-loop μ-loop = search in c .if1 .left in
     let l = args .t .now in
     let cells = cellsIn controller (args .s .now) in
     let i = loop .i in
@@ -105,7 +109,7 @@ loop-again c =
 
 returns-3 : tie.Need-returns-3 Inv-loop μ-loop
 returns-3 c =
-    let args = c .before .before .before .before .before .before .args in
+    let args = let c : tie.Start Inv-loop μ-loop = search in c .args in
     let loop = c .before .loop in
     let l = args .t .now in
     let cells = cellsIn controller (args .s .now) in

@@ -13,21 +13,21 @@ counts-right-requires c κs = search needs
 
 returns : tie.Need-returns
 returns c =
-    let args = c .before .before .before .before .args in
+    let args = let c : tie.Start = search in c .args in
     stop _ _ _ (fails (c .before .counts-right .ensures) (c .if1 .taken)) refl
     ∙ busy-order (cellsIn controller (args .s .now)) (args .clock) (args .t .now)
 
 logs-right-requires : tie.Need-logs-right-requires
 logs-right-requires c κs =
-    let args = c .before .before .before .before .args in
-    let pre = c .before .before .before .before .pre in
+    let args = let c : tie.Start = search in c .args in
+    let pre = let c : tie.Start = search in c .pre in
     (pre .0, counted (args .t .now) (pre .1) (passes (c .before .counts-right .ensures) (c .if1 .left)))
 
 returns-2 : tie.Need-returns-2
 returns-2 c =
-    let args = c .before .before .before .before .before .before .args in
-    let counts-right = c .before .before .before .counts-right in
-    let if1 = c .before .before .if1 .left in
+    let args = let c : tie.Start = search in c .args in
+    let counts-right = let c : tie.After-counts-right = search in c .counts-right in
+    let if1 = let c : tie.Else1 = search in c .if1 .left in
     pass _ _ _ (passes (counts-right .ensures) if1) (stop _ _ _ (fails (c .before .logs-right .ensures) (c .if2 .taken)) refl)
     ∙ busy-order (cellsIn controller (args .s .now)) (args .clock) (args .t .now)
 
@@ -36,32 +36,32 @@ numbers-right-requires c κs = search needs
 
 returns-3 : tie.Need-returns-3
 returns-3 c =
-    let args = c .before .before .before .before .before .before .before .before .args in
-    let counts-right = c .before .before .before .before .before .counts-right in
-    let if1 = c .before .before .before .before .if1 .left in
-    let logs-right = c .before .before .before .logs-right in
-    let if2 = c .before .before .if2 .left in
+    let args = let c : tie.Start = search in c .args in
+    let counts-right = let c : tie.After-counts-right = search in c .counts-right in
+    let if1 = let c : tie.Else1 = search in c .if1 .left in
+    let logs-right = let c : tie.After-logs-right = search in c .logs-right in
+    let if2 = let c : tie.Else2 = search in c .if2 .left in
     pass _ _ _ (passes (counts-right .ensures) if1)
     (pass _ _ _ (passes (logs-right .ensures) if2) (stop _ _ _ (fails (c .before .numbers-right .ensures) (c .if3 .taken)) refl))
     ∙ busy-order (cellsIn controller (args .s .now)) (args .clock) (args .t .now)
 
 unused-zero-requires : tie.Need-unused-zero-requires
 unused-zero-requires c κs =
-    let args = c .before .before .before .before .before .before .before .before .args in
-    let pre = c .before .before .before .before .before .before .before .before .pre in
-    let counts-right = c .before .before .before .before .before .counts-right in
-    let if1 = c .before .before .before .before .if1 .left in
+    let args = let c : tie.Start = search in c .args in
+    let pre = let c : tie.Start = search in c .pre in
+    let counts-right = let c : tie.After-counts-right = search in c .counts-right in
+    let if1 = let c : tie.Else1 = search in c .if1 .left in
     counted (args .t .now) (pre .1) (passes (counts-right .ensures) if1)
 
 returns-4 : tie.Need-returns-4
 returns-4 c =
-    let args = c .before .before .before .before .before .before .before .before .before .before .args in
-    let counts-right = c .before .before .before .before .before .before .before .counts-right in
-    let if1 = c .before .before .before .before .before .before .if1 .left in
-    let logs-right = c .before .before .before .before .before .logs-right in
-    let if2 = c .before .before .before .before .if2 .left in
-    let numbers-right = c .before .before .before .numbers-right in
-    let if3 = c .before .before .if3 .left in
+    let args = let c : tie.Start = search in c .args in
+    let counts-right = let c : tie.After-counts-right = search in c .counts-right in
+    let if1 = let c : tie.Else1 = search in c .if1 .left in
+    let logs-right = let c : tie.After-logs-right = search in c .logs-right in
+    let if2 = let c : tie.Else2 = search in c .if2 .left in
+    let numbers-right = let c : tie.After-numbers-right = search in c .numbers-right in
+    let if3 = let c : tie.Else3 = search in c .if3 .left in
     pass _ _ _ (passes (counts-right .ensures) if1)
     (pass _ _ _ (passes (logs-right .ensures) if2)
     (pass _ _ _ (passes (numbers-right .ensures) if3) (stop _ _ _ (fails (c .before .unused-zero .ensures) (c .if4 .taken)) refl)))
@@ -69,22 +69,22 @@ returns-4 c =
 
 marked-right-requires : tie.Need-marked-right-requires
 marked-right-requires c κs =
-    let args = c .before .before .before .before .before .before .before .before .before .before .args in
-    let pre = c .before .before .before .before .before .before .before .before .before .before .pre in
-    let counts-right = c .before .before .before .before .before .before .before .counts-right in
-    let if1 = c .before .before .before .before .before .before .if1 .left in
+    let args = let c : tie.Start = search in c .args in
+    let pre = let c : tie.Start = search in c .pre in
+    let counts-right = let c : tie.After-counts-right = search in c .counts-right in
+    let if1 = let c : tie.Else1 = search in c .if1 .left in
     (counted (args .t .now) (pre .1) (passes (counts-right .ensures) if1), passes (c .before .unused-zero .ensures) (c .if4 .left))
 
 returns-5 : tie.Need-returns-5
 returns-5 c =
-    let args = c .before .before .before .before .before .before .before .before .before .before .before .args in
-    let counts-right = c .before .before .before .before .before .before .before .before .counts-right in
-    let if1 = c .before .before .before .before .before .before .before .if1 .left in
-    let logs-right = c .before .before .before .before .before .before .logs-right in
-    let if2 = c .before .before .before .before .before .if2 .left in
-    let numbers-right = c .before .before .before .before .numbers-right in
-    let if3 = c .before .before .before .if3 .left in
-    let unused-zero = c .before .before .unused-zero in
+    let args = let c : tie.Start = search in c .args in
+    let counts-right = let c : tie.After-counts-right = search in c .counts-right in
+    let if1 = let c : tie.Else1 = search in c .if1 .left in
+    let logs-right = let c : tie.After-logs-right = search in c .logs-right in
+    let if2 = let c : tie.Else2 = search in c .if2 .left in
+    let numbers-right = let c : tie.After-numbers-right = search in c .numbers-right in
+    let if3 = let c : tie.Else3 = search in c .if3 .left in
+    let unused-zero = let c : tie.After-unused-zero = search in c .unused-zero in
     pass _ _ _ (passes (counts-right .ensures) if1)
     (pass _ _ _ (passes (logs-right .ensures) if2)
     (pass _ _ _ (passes (numbers-right .ensures) if3) (pass _ _ _ (passes (unused-zero .ensures) (c .before .if4 .left)) (c .marked-right .ensures))))

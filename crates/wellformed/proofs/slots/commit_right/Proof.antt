@@ -15,23 +15,23 @@ shared-slice-read-phase c = search needs
 
 returns : tie.Need-returns
 returns c =
-    let args = c .before .before .before .before .args in
-    let get = c .before .before .get in
+    let args = let c : tie.Start = search in c .args in
+    let get = let c : tie.After-get = search in c .get in
     commit-early (args .t .now) (args .clock) (get .result) (get .ensures) (c .if1 .taken)
 
 returns-2 : tie.Need-returns-2
 returns-2 c =
-    let args = c .before .before .before .before .before .args in
-    let pre = c .before .before .before .before .before .pre in
-    let get = c .before .before .before .get in
+    let args = let c : tie.Start = search in c .args in
+    let pre = let c : tie.Start = search in c .pre in
+    let get = let c : tie.After-get = search in c .get in
     pass _ _ _ (lt-ltb _ _ (c .if2 .taken)) refl
     ∙ commit-late (args .t .now) (args .clock) (args .start) (get .result) (pre .1) (get .ensures) (c .before .if1 .left)
 
 returns-3 : tie.Need-returns-3
 returns-3 c =
-    let args = c .before .before .before .before .before .args in
-    let pre = c .before .before .before .before .before .pre in
-    let get = c .before .before .before .get in
+    let args = let c : tie.Start = search in c .args in
+    let pre = let c : tie.Start = search in c .pre in
+    let get = let c : tie.After-get = search in c .get in
     let if2 = c .if2 .left in
     stop _ _ _ (le-ltb _ _ if2) (le-ltb _ _ if2)
     ∙ commit-late (args .t .now) (args .clock) (args .start) (get .result) (pre .1) (get .ensures) (c .before .if1 .left)

@@ -20,39 +20,52 @@ shared-slice-read-flag : tie.Need-shared-slice-read-flag
 shared-slice-read-flag c = search needs
 
 returns : tie.Need-returns
-returns c = marks-over _ _ (known (c .before .before)) (c .if1 .taken)
+returns c =
+    let at-after-marks-of = let c : tie.After-marks-of = search in c in
+    marks-over _ _ (known at-after-marks-of) (c .if1 .taken)
 
 returns-2 : tie.Need-returns-2
-returns-2 c = flag-over _ _ (known (c .before .before .before)) (c .if2 .taken)
+returns-2 c =
+    let at-after-marks-of = let c : tie.After-marks-of = search in c in
+    flag-over _ _ (known at-after-marks-of) (c .if2 .taken)
 
 returns-3 : tie.Need-returns-3
-returns-3 c = no-mark _ _ (known (c .before .before .before .before)) (c .before .before .if1 .left) (c .before .if2 .left) (c .if3 .taken)
+returns-3 c =
+    let at-after-marks-of = let c : tie.After-marks-of = search in c in
+    let if1 = let c : tie.Else1 = search in c .if1 .left in
+    let if2 = let c : tie.Else2 = search in c .if2 .left in
+    no-mark _ _ (known at-after-marks-of) if1 if2 (c .if3 .taken)
 
 shared-slice-read-phase : tie.Need-shared-slice-read-phase
 shared-slice-read-phase c = search needs
 
 returns-4 : tie.Need-returns-4
 returns-4 c =
-    let if1 = c .before .before .before .before .if1 .left in
-    let if2 = c .before .before .before .if2 .left in
-    let if3 = c .before .before .if3 .left in
-    stop _ _ _ (lt-leb _ _ (c .if4 .taken)) refl ∙ some-mark _ _ (known (c .before .before .before .before .before .before)) if1 if2 if3
+    let at-after-marks-of = let c : tie.After-marks-of = search in c in
+    let if1 = let c : tie.Else1 = search in c .if1 .left in
+    let if2 = let c : tie.Else2 = search in c .if2 .left in
+    let if3 = let c : tie.Else3 = search in c .if3 .left in
+    stop _ _ _ (lt-leb _ _ (c .if4 .taken)) refl ∙ some-mark _ _ (known at-after-marks-of) if1 if2 if3
 
 returns-5 : tie.Need-returns-5
 returns-5 c =
-    let if1 = c .before .before .before .before .before .if1 .left in
-    let if2 = c .before .before .before .before .if2 .left in
-    let if3 = c .before .before .before .if3 .left in
-    pass _ _ _ (le-leb _ _ (c .before .if4 .left)) (or-yes _ _ (ap not (ne-eqb _ _ (c .if5 .taken))))
-    ∙ some-mark _ _ (known (c .before .before .before .before .before .before .before)) if1 if2 if3
+    let at-after-marks-of = let c : tie.After-marks-of = search in c in
+    let if4 = let c : tie.Else4 = search in c .if4 .left in
+    let if1 = let c : tie.Else1 = search in c .if1 .left in
+    let if2 = let c : tie.Else2 = search in c .if2 .left in
+    let if3 = let c : tie.Else3 = search in c .if3 .left in
+    pass _ _ _ (le-leb _ _ if4) (or-yes _ _ (ap not (ne-eqb _ _ (c .if5 .taken))))
+    ∙ some-mark _ _ (known at-after-marks-of) if1 if2 if3
 
 returns-6 : tie.Need-returns-6
 returns-6 c =
-    let if1 = c .before .before .before .before .before .if1 .left in
-    let if2 = c .before .before .before .before .if2 .left in
-    let if3 = c .before .before .before .if3 .left in
-    pass _ _ _ (le-leb _ _ (c .before .if4 .left)) (or-no _ _ (ap not (eq-eqb _ _ (c .if5 .left))))
-    ∙ some-mark _ _ (known (c .before .before .before .before .before .before .before)) if1 if2 if3
+    let at-after-marks-of = let c : tie.After-marks-of = search in c in
+    let if4 = let c : tie.Else4 = search in c .if4 .left in
+    let if1 = let c : tie.Else1 = search in c .if1 .left in
+    let if2 = let c : tie.Else2 = search in c .if2 .left in
+    let if3 = let c : tie.Else3 = search in c .if3 .left in
+    pass _ _ _ (le-leb _ _ if4) (or-no _ _ (ap not (eq-eqb _ _ (c .if5 .left))))
+    ∙ some-mark _ _ (known at-after-marks-of) if1 if2 if3
 
 pub marked-right-spec : {M : Type 1} → statement M
 marked-right-spec =

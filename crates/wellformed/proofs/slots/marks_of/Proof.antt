@@ -36,8 +36,8 @@ loop-less c = omega arith
 
 loop-again : tie.Need-loop-again Inv-loop μ-loop
 loop-again c =
-    let args = c .before .before .before .args in
-    let loop = c .before .before .loop in
+    let args = let c : tie.Start Inv-loop μ-loop = search in c .args in
+    let loop = let c : tie.At-loop Inv-loop μ-loop = search in c .loop in
     (omega arith, gathered-next (args .t .now) (loop .any) (loop .i) (loop .inv .1))
 
 returns : tie.Need-returns Inv-loop μ-loop

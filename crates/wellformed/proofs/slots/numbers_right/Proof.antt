@@ -17,7 +17,7 @@ get-requires c κs = search needs
 returns : tie.Need-returns
 unfolding numbersRight slotOf
 returns c =
-    let args = c .before .before .before .args in
+    let args = let c : tie.Start = search in c .args in
     stop _ _ _ (lt-leb (be 8 (drop 5 (args .t .now))) (args .clock) (omega arith)) refl
 
 taken-right-requires : tie.Need-taken-right-requires
@@ -26,7 +26,7 @@ taken-right-requires c κs = search needs
 returns-2 : tie.Need-returns-2
 unfolding numbersRight slotOf
 returns-2 c =
-    let args = c .before .before .before .before .before .args in
+    let args = let c : tie.Start = search in c .args in
     pass _ _ _ (le-leb (be 8 (drop 5 (args .t .now))) (args .clock) (omega arith)) (stop _ _ _ (fails (c .before .taken-right .ensures) (c .if2 .taken)) refl)
 
 commit-right-requires : tie.Need-commit-right-requires
@@ -35,8 +35,8 @@ commit-right-requires c κs = search needs
 returns-3 : tie.Need-returns-3
 unfolding numbersRight slotOf
 returns-3 c =
-    let args = c .before .before .before .before .before .before .args in
-    let taken-right = c .before .before .taken-right in
+    let args = let c : tie.Start = search in c .args in
+    let taken-right = let c : tie.After-taken-right = search in c .taken-right in
     pass _ _ _ (le-leb (be 8 (drop 5 (args .t .now))) (args .clock) (omega arith)) (pass _ _ _ (passes (taken-right .ensures) (c .before .if2 .left)) (c .commit-right .ensures))
 
 pub numbers-right-spec : {M : Type 1} → statement M

@@ -16,7 +16,7 @@ shared-slice-read-phase c = search needs
 returns : tie.Need-returns
 unfolding slotPlaceRight slotOf
 returns c =
-    let args = c .before .before .before .before .args in
+    let args = let c : tie.Start = search in c .args in
     stop _ _ _ (lt-leb (getD (args .t .now) 0 0) 4 (omega arith)) refl
 
 all-zero-requires : tie.Need-all-zero-requires
@@ -25,7 +25,7 @@ all-zero-requires c κs = search needs
 returns-2 : tie.Need-returns-2
 unfolding slotPlaceRight slotOf
 returns-2 c =
-    let args = c .before .before .before .before .before .before .args in
+    let args = let c : tie.Start = search in c .args in
     pass _ _ _ (le-leb (getD (args .t .now) 0 0) 4 (omega arith)) (pick-yes _ _ _ _ (eq-eqb _ _ (c .before .if2 .taken)) (c .all-zero .ensures))
 
 busy-right-requires : tie.Need-busy-right-requires
@@ -34,7 +34,7 @@ busy-right-requires c κs = search needs
 returns-3 : tie.Need-returns-3
 unfolding slotPlaceRight slotOf
 returns-3 c =
-    let args = c .before .before .before .before .before .before .args in
+    let args = let c : tie.Start = search in c .args in
     pass _ _ _ (le-leb (getD (args .t .now) 0 0) 4 (omega arith)) (pick-no _ _ _ _ (ne-eqb _ _ (c .before .if2 .left)) (c .busy-right .ensures))
 
 pub slot-right-spec : {M : Type 1} → statement M

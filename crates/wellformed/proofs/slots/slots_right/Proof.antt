@@ -26,21 +26,23 @@ loop-holds : tie.Need-loop-holds Inv-loop μ-loop
 loop-holds c = (omega arith, every-start _)
 
 slot-place-requires : tie.Need-slot-place-requires Inv-loop μ-loop
-slot-place-requires c κs = (c .before .before .before .pre, omega arith)
+slot-place-requires c κs =
+    let start = let c : tie.Start Inv-loop μ-loop = search in c in
+    (start .pre, omega arith)
 
 slot-right-requires : tie.Need-slot-right-requires Inv-loop μ-loop
 slot-right-requires c κs =
-    let args = c .before .before .before .before .args in
-    let pre = c .before .before .before .before .pre in
-    let loop = c .before .before .loop in
+    let args = let c : tie.Start Inv-loop μ-loop = search in c .args in
+    let pre = let c : tie.Start Inv-loop μ-loop = search in c .pre in
+    let loop = let c : tie.At-loop Inv-loop μ-loop = search in c .loop in
     let slot-place = c .slot-place in
     (pre, place-size (args .n) (args .s .now) pre (loop .k) (omega arith) (slot-place .result .now) (slot-place .ensures))
 
 returns : tie.Need-returns Inv-loop μ-loop
 returns c =
-    let args = c .before .before .before .before .before .before .args in
-    let loop = c .before .before .before .before .loop in
-    let slot-place = c .before .before .slot-place in
+    let args = let c : tie.Start Inv-loop μ-loop = search in c .args in
+    let loop = let c : tie.At-loop Inv-loop μ-loop = search in c .loop in
+    let slot-place = let c : tie.After-slot-place Inv-loop μ-loop = search in c .slot-place in
     every-no 8 (right (args .s .now) (args .clock)) (loop .k) (omega arith)
     (fails (c .before .slot-right .ensures ∙ ap (slotPlaceRight controller (cellsIn controller (args .s .now)) (args .clock)) (slot-place .ensures)) (c .if1 .taken))
 
@@ -52,9 +54,9 @@ loop-less c = omega arith
 
 loop-again : tie.Need-loop-again Inv-loop μ-loop
 loop-again c =
-    let args = c .before .before .before .before .before .before .args in
-    let loop = c .before .before .before .before .loop in
-    let slot-place = c .before .before .slot-place in (
+    let args = let c : tie.Start Inv-loop μ-loop = search in c .args in
+    let loop = let c : tie.At-loop Inv-loop μ-loop = search in c .loop in
+    let slot-place = let c : tie.After-slot-place Inv-loop μ-loop = search in c .slot-place in (
       omega arith,
       every-next (right (args .s .now) (args .clock)) (loop .k) (loop .inv .1)
           (passes (c .before .slot-right .ensures ∙ ap (slotPlaceRight controller (cellsIn controller (args .s .now)) (args .clock)) (slot-place .ensures)) (c .if1 .left)),
@@ -62,7 +64,7 @@ loop-again c =
 
 returns-2 : tie.Need-returns-2 Inv-loop μ-loop
 returns-2 c =
-    let args = c .before .before .before .args in
+    let args = let c : tie.Start Inv-loop μ-loop = search in c .args in
     let loop = c .before .loop in
     every-yes 8 (right (args .s .now) (args .clock)) (loop .k) (omega arith) (loop .inv .1)
 

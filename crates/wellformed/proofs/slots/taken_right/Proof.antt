@@ -26,7 +26,10 @@ shared-slice-read-result-2 c = search needs
 
 returns-2 : tie.Need-returns-2
 unfolding takenRight slotOf
-returns-2 c = pick-no _ _ _ _ (ne-eqb _ _ (c .before .before .if1 .left)) (pick-yes _ _ _ _ (eq-eqb _ _ (c .before .if2 .taken)) refl)
+returns-2 c =
+    let if1 = let c : tie.Else1 = search in c .if1 .left in
+    let if2 = let c : tie.Then2 = search in c .if2 .taken in
+    pick-no _ _ _ _ (ne-eqb _ _ if1) (pick-yes _ _ _ _ (eq-eqb _ _ if2) refl)
 
 returns-3 : tie.Need-returns-3
 unfolding takenRight slotOf

@@ -36,9 +36,9 @@ all-zero-requires c κs = search needs
 
 returns : tie.Need-returns
 returns c =
-    let args = c .before .before .before .before .before .before .before .args in
-    let index = c .before .before .before .before .index in
-    let index2 = c .before .before .index2 in
+    let args = let c : tie.Start = search in c .args in
+    let index = let c : tie.After-index = search in c .index in
+    let index2 = let c : tie.After-index2 = search in c .index2 in
     stop _ _ _ (fails (c .before .all-zero .ensures) (c .if1 .taken)) refl
     ∙ unused-places (args .t .now) (index .result) (index2 .result) (index .ensures .0) (index2 .ensures .0) (omega arith) (omega arith)
 
@@ -59,10 +59,10 @@ all-zero-requires-2 c κs = search needs
 
 returns-2 : tie.Need-returns-2
 returns-2 c =
-    let args = c .before .before .before .before .before .before .before .before .args in
-    let index = c .before .before .before .before .before .index in
-    let index2 = c .before .before .before .index2 in
-    let all-zero = c .before .before .all-zero in
+    let args = let c : tie.Start = search in c .args in
+    let index = let c : tie.After-index = search in c .index in
+    let index2 = let c : tie.After-index2 = search in c .index2 in
+    let all-zero = let c : tie.After-all-zero = search in c .all-zero in
     pass _ _ _ (passes (all-zero .ensures) (c .before .if1 .left)) (c .all-zero2 .ensures)
     ∙ unused-places (args .t .now) (index .result) (index2 .result) (index .ensures .0) (index2 .ensures .0) (omega arith) (omega arith)
 
