@@ -5,7 +5,7 @@ use native.Mathlib.Omega.{arith}
 use lib.ListN.{length, getD-replicate}
 use Rattle.wellformed.specs.Claims.{cellsDue}
 use Rattle.wellformed.proofs.Places.{own-frame}
-use Rattle.wellformed.proofs.SlotLaws.{slot-right-at}
+use Rattle.wellformed.proofs.AreaLaws.{slot-right-at}
 use Rattle.wellformed.proofs.Turn.{Passed, none-passed, turn-wrong, turn-right, all-passed}
 use Rattle.wellformed.proofs.holders.cells_held.Statement.{statement}
 use Rattle.wellformed.proofs.holders.cells_held.Tie as tie

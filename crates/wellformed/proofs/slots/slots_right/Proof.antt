@@ -8,8 +8,8 @@ use Rattle.slot.specs.Logic.{every}
 use Rattle.rules.specs.Model.{controller}
 use Rattle.rules.specs.Layout.{cellsIn, slotPlace}
 use Rattle.rules.specs.AreaRight.{slotPlaceRight}
-use Rattle.wellformed.proofs.Chains.{passes, fails, every-start, every-next, every-no, every-yes}
-use Rattle.wellformed.proofs.SlotLaws.{place-size}
+use Rattle.slotright.proofs.Chains.{passes, fails, every-start, every-next, every-no, every-yes}
+use Rattle.wellformed.proofs.AreaLaws.{place-size}
 use Rattle.wellformed.proofs.slots.slots_right.Statement.{statement}
 use Rattle.wellformed.proofs.slots.slots_right.Tie as tie
 

@@ -7,7 +7,7 @@ use borrow.Author.Needs.{needs}
 use lib.ListN.{getD}
 use Rattle.slot.specs.Logic.{every}
 use Rattle.rules.specs.LogsRight.{stampsApart}
-use Rattle.wellformed.proofs.Chains.{passes, fails, every-start, every-next, every-no, every-yes}
+use Rattle.slotright.proofs.Chains.{passes, fails, every-start, every-next, every-no, every-yes}
 use Rattle.wellformed.proofs.stamps.stamp_apart.Statement.{statement}
 use Rattle.wellformed.proofs.stamps.stamp_apart.Tie as tie
 

@@ -6,8 +6,8 @@ use native.Mathlib.Omega.{arith}
 use lib.ListN.{getD}
 use Rattle.slot.specs.Logic.{every}
 use Rattle.rules.specs.LogsRight.{stampsApart}
-use Rattle.wellformed.proofs.Chains.{passes, fails, every-start, every-next, every-no, every-yes}
-use Rattle.wellformed.proofs.SlotLaws.{stamps-all}
+use Rattle.slotright.proofs.Chains.{passes, fails, every-start, every-next, every-no, every-yes}
+use Rattle.wellformed.proofs.AreaLaws.{stamps-all}
 use Rattle.wellformed.proofs.stamps.stamps_apart.Statement.{statement}
 use Rattle.wellformed.proofs.stamps.stamps_apart.Tie as tie
 

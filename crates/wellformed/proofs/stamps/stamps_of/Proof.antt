@@ -6,7 +6,7 @@ use native.Mathlib.Omega.{arith}
 use lib.ListN.{drop, replicate}
 use Rattle.wire.specs.Table.{tab}
 use Rattle.wire.proofs.Laws.Table.{fill-start, fill-step, fill-end}
-use Rattle.wellformed.specs.Frame.{stampIn}
+use Rattle.wellformed.specs.AreaParts.{stampIn}
 use Rattle.wellformed.proofs.stamps.stamps_of.Statement.{statement}
 use Rattle.wellformed.proofs.stamps.stamps_of.Tie as tie
 
