@@ -37,7 +37,9 @@ loop-again c =
     (omega arith, zero-next (args .s .now) (args .from) (loop .i) (loop .any) (loop .inv .1))
 
 returns : tie.Need-returns Inv-loop μ-loop
-returns c = let whole : c .before .loop .i ≡ c .before .before .args .count = omega arith in rw (← whole) (c .before .loop .inv .1)
+returns c =
+    let start : tie.Start Inv-loop μ-loop = search in
+    let whole : c .before .loop .i ≡ start .args .count = omega arith in rw (← whole) (c .before .loop .inv .1)
 
 pub all-zero-spec : {M : Type 1} → statement M
 all-zero-spec =

@@ -13,7 +13,6 @@ cast-result : tie.Need-cast-result
 cast-result c =
     let args = let c : tie.Start = search in c .args in
     let known = c .before .shared-slice-known in
-    let args = args in
     let get = c .get in
     omega (arith, be-bound 4 (drop (args .at) (args .s .now)) (bytes-drop (args .at) (args .s .now) (λ i. omega (arith, known .given i))), get .ensures)
 

@@ -103,8 +103,6 @@ returns-4 : tie.Need-returns-4
 returns-4 c =
     let args = let c : tie.Start = search in c .args in
     let if1 = let c : tie.Else1 = search in c .if1 .left in
-    let args = args in
-    let if1 = if1 in
     claimed-none (args .s .now) (args .slot) (recordHolds (slotOf 8 (args .t .now))) (holds-none (args .t .now) if1 (c .before .if2 .left) (c .if3 .left)) (args .due .now)
 
 pub claim-spec : {M : Type 1} → statement M
