@@ -7,3 +7,4 @@ pub mod LogLaws
 pub mod MarkLaws
 pub mod NumberLaws
 pub mod SlotLaws
+pub mod Unique

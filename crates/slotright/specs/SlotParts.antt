@@ -1,4 +1,4 @@
--- The parts of what "well formed" says of a slot that one function each decides, in the order in which they are decided.
+-- What "well formed" says of a slot, and the parts of it that one function each decides.
 use mathlib.Core.Bool.{Bool, true}
 use mathlib.Core.List.{List}
 use mathlib.Core.Path.{_≡_}
@@ -11,8 +11,14 @@ use Rattle.slot.specs.Logic.{_and_, every}
 use Rattle.slot.specs.Logs.{readLog, writeLog, someMarked}
 use Rattle.slot.specs.Layout.{slotOf, readOf}
 use Rattle.rules.specs.declared.Cell.{Cell}
+use Rattle.rules.specs.Model.{controller}
+use Rattle.rules.specs.Layout.{cellsIn}
 use Rattle.rules.specs.LogsRight.{readsRight, writesRight}
-use Rattle.rules.specs.AreaRight.{takenRight, commitRight, marksRight, ignoringRight, flagsRight}
+use Rattle.rules.specs.AreaRight.{takenRight, commitRight, marksRight, ignoringRight, flagsRight, slotPlaceRight}
+
+-- what "well formed" says of a slot but for the holders: of the bytes l from the slot on, in the area a at a clock
+abbrev pub slotRightIn : List ℕ → ℕ → List ℕ → Bool
+slotRightIn a clock l = slotPlaceRight controller (cellsIn controller a) clock l
 
 -- a slot's bytes, with counts at most 16
 pub record Counted (l : List ℕ) : Type 0 where

@@ -7,8 +7,9 @@ ghost use Rattle.value.specs.Legal.{legalWord};
 ghost use Rattle.slot.specs.Layout.{slotOf};
 ghost use Rattle.rules.specs.Model.{controller};
 ghost use Rattle.rules.specs.Layout.{cellsIn};
-ghost use Rattle.rules.specs.AreaRight.{zeros, busyRight, slotPlaceRight};
+ghost use Rattle.rules.specs.AreaRight.{zeros, busyRight};
 ghost use Rattle.slotright.specs.Frame.{Framed};
+ghost use Rattle.slotright.specs.SlotParts.{slotRightIn};
 
 mod logs;
 mod marks;
@@ -113,7 +114,7 @@ fn busy_right(s: &[u8], n: usize, clock: u64, t: &[u8]) -> bool
 // Phases 0 to 4; an idle slot all zero. `t` are the bytes from the slot on, in an area `s` of `n` cells.
 pub fn slot_right(s: &[u8], n: usize, clock: u64, t: &[u8]) -> bool
     requires { ⌜ (Framed n (now s)) × (197 ≤ length (now t)) ⌝ }
-    ensures { λ r. ⌜ r ≡ slotPlaceRight controller (cellsIn controller (now (s .entry))) clock (now (t .entry)) ⌝ }
+    ensures { λ r. ⌜ r ≡ slotRightIn (now (s .entry)) clock (now (t .entry)) ⌝ }
 {
     let phase = t[PHASE_AT];
     if 4 < phase {

@@ -16,8 +16,9 @@ use Rattle.slot.proofs.Logic.{and-assoc, every-at, every-ext}
 use Rattle.rules.specs.Model.{controller}
 use Rattle.rules.specs.Layout.{cellOf, cellsIn, slotPlace, recordsIn, clockIn}
 use Rattle.rules.specs.LogsRight.{cellRight, stampsApart}
-use Rattle.rules.specs.AreaRight.{commitsApart, slotPlaceRight, wellFormedButHolders, areaHoldersRight, wellFormed}
+use Rattle.rules.specs.AreaRight.{commitsApart, wellFormedButHolders, areaHoldersRight, wellFormed}
 use Rattle.slotright.specs.Frame.{Framed}
+use Rattle.slotright.specs.SlotParts.{slotRightIn}
 use Rattle.slotright.proofs.Chains.{and-comm, and-swap}
 use Rattle.slotright.proofs.Tables.{all-tab, pairwise-tab}
 use Rattle.wellformed.specs.AreaParts.{headerRight, cellsRight, slotsRight, partsRight, stampIn}
@@ -72,5 +73,5 @@ pub slot-right-at : (n : ℕ) (a : List ℕ) → Framed n a → slotsRight (cloc
 slot-right-at n a f p k h t e =
     record {
       size = place-size n a f k h t e;
-      right = rw e (every-at 8 (λ i. slotPlaceRight controller (cellsIn controller a) (clockIn controller a) (slotPlace controller a i)) p k h);
+      right = rw e (every-at 8 (λ i. slotRightIn a (clockIn controller a) (slotPlace controller a i)) p k h);
     }

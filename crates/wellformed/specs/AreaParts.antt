@@ -7,8 +7,9 @@ use Rattle.wire.specs.Field.{be}
 use Rattle.slot.specs.Logic.{_and_, every, all}
 use Rattle.rules.specs.Model.{controller}
 use Rattle.rules.specs.Layout.{countIn, cellsIn, slotPlace, recordsIn}
-use Rattle.rules.specs.AreaRight.{lengthsAgree, versionRight, slotPlaceRight, commitsApart}
+use Rattle.rules.specs.AreaRight.{lengthsAgree, versionRight, commitsApart}
 use Rattle.rules.specs.LogsRight.{cellCountRight, cellRight}
+use Rattle.slotright.specs.SlotParts.{slotRightIn}
 
 -- the sentences on the header alone
 unfoldable pub headerRight : List ℕ → Bool
@@ -19,7 +20,7 @@ abbrev pub cellsRight : ℕ → List ℕ → Bool
 cellsRight clock a = all (cellRight clock) (cellsIn controller a)
 
 abbrev pub slotsRight : ℕ → List ℕ → Bool
-slotsRight clock a = every 8 (λ k. slotPlaceRight controller (cellsIn controller a) clock (slotPlace controller a k))
+slotsRight clock a = every 8 (λ k. slotRightIn a clock (slotPlace controller a k))
 
 -- the sentences on slots and commit stamps
 unfoldable pub partsRight : ℕ → List ℕ → Bool

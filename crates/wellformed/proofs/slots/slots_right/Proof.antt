@@ -6,15 +6,15 @@ use Prim.Native.Nat.{ℕ, _-_, _≤_}
 use native.Mathlib.Omega.{arith}
 use Rattle.slot.specs.Logic.{every}
 use Rattle.rules.specs.Model.{controller}
-use Rattle.rules.specs.Layout.{cellsIn, slotPlace}
-use Rattle.rules.specs.AreaRight.{slotPlaceRight}
+use Rattle.rules.specs.Layout.{slotPlace}
+use Rattle.slotright.specs.SlotParts.{slotRightIn}
 use Rattle.slotright.proofs.Chains.{passes, fails, every-start, every-next, every-no, every-yes}
 use Rattle.wellformed.proofs.AreaLaws.{place-size}
 use Rattle.wellformed.proofs.slots.slots_right.Statement.{statement}
 use Rattle.wellformed.proofs.slots.slots_right.Tie as tie
 
 abbrev right : List ℕ → ℕ → ℕ → Bool
-right l clock k = slotPlaceRight controller (cellsIn controller l) clock (slotPlace controller l k)
+right l clock k = slotRightIn l clock (slotPlace controller l k)
 
 abbrev Inv-loop : tie.InvT-loop
 Inv-loop s n clock k₀ k = (k ≤ 8) × (every k (right s clock) ≡ true)
@@ -44,7 +44,7 @@ returns c =
     let loop = let c : tie.At-loop Inv-loop μ-loop = search in c .loop in
     let slot-place = let c : tie.After-slot-place Inv-loop μ-loop = search in c .slot-place in
     every-no 8 (right (args .s .now) (args .clock)) (loop .k) (omega arith)
-    (fails (c .before .slot-right .ensures ∙ ap (slotPlaceRight controller (cellsIn controller (args .s .now)) (args .clock)) (slot-place .ensures)) (c .if1 .taken))
+    (fails (c .before .slot-right .ensures ∙ ap (slotRightIn (args .s .now) (args .clock)) (slot-place .ensures)) (c .if1 .taken))
 
 add-k : tie.Need-add-k Inv-loop μ-loop
 add-k c = omega arith
@@ -59,7 +59,7 @@ loop-again c =
     let slot-place = let c : tie.After-slot-place Inv-loop μ-loop = search in c .slot-place in (
       omega arith,
       every-next (right (args .s .now) (args .clock)) (loop .k) (loop .inv .1)
-          (passes (c .before .slot-right .ensures ∙ ap (slotPlaceRight controller (cellsIn controller (args .s .now)) (args .clock)) (slot-place .ensures)) (c .if1 .left)),
+          (passes (c .before .slot-right .ensures ∙ ap (slotRightIn (args .s .now) (args .clock)) (slot-place .ensures)) (c .if1 .left)),
     )
 
 returns-2 : tie.Need-returns-2 Inv-loop μ-loop
