@@ -48,8 +48,6 @@ unfolding computed
 two-blocked =
     record {
       reached = refl;
-      first = (refl, refl);
-      second = (refl, refl);
       endless = each-11 blocked (λ s. gets-11 s (eqb s 1) refl);
       kept = none-changes blocked (λ s. gets-11 s (eqb s 1) refl);
     }

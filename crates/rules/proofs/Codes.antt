@@ -1,18 +1,17 @@
 -- The lowest code that applies is given: for each step its row and the table ask the same tests in the same order.
 use mathlib.Core.Bool.{Bool, true, false, not, cond}
 use mathlib.Core.List.{List}
-use mathlib.Core.Option.{Option, none, some}
 use mathlib.Core.Path.{_≡_, refl, _∙_, ap}
 use Prim.Native.Nat.{ℕ, zero, suc, pred, _<_}
 use native.Mathlib.Omega.{arith}
-use borrow.Author.Tests.{leb-true, leb-false, le-ltb, lt-ltb, le-leb, lt-leb, not-false}
+use borrow.Author.Tests.{leb-true, leb-false, le-ltb, lt-ltb, le-leb, lt-leb}
 use lib.Dec.{eqb, ltb, leb}
 use lib.ListN.{length, getD}
 use Rattle.value.specs.Legal.{legalWord}
-use Rattle.value.specs.Value.{kindOf, wordOf, valueOf, parsed}
+use Rattle.value.specs.Value.{valueOf, parsed}
 use Rattle.value.proofs.RoundTrip.{kind-back, word-back}
 use Rattle.call.specs.declared.Reply.{Reply}
-use Rattle.call.specs.declared.Reply.the-variants.{NotWellFormed, NoSuchStep, NoSuchSlot, NotAllowed, NoSuchCell, IllegalValue, NotInLog, OtherKind, LogFull, ReadHeld, ReadNewer, LockHeld, LastStamp}
+use Rattle.call.specs.declared.Reply.the-variants.{Verdict, NotWellFormed, NoSuchSlot, NotAllowed, NoSuchCell, IllegalValue, NotInLog, OtherKind, LogFull, ReadHeld, ReadNewer, LockHeld, LastStamp}
 use Rattle.call.specs.Answer.{replyCode}
 use Rattle.call.specs.Decode.{decoded}
 use Rattle.slot.specs.declared.ReadEntry.{ReadEntry}
@@ -21,19 +20,17 @@ use Rattle.slot.specs.Layout.{readCapacity, writeCapacity, noWrite}
 use Rattle.slot.specs.Logic.{_and_, _or_, any, first, pairwise, all}
 use Rattle.slot.specs.Logs.{readEntry, writeEntry, readsCell, writesCell, someMarked}
 use Rattle.slot.proofs.Search.{of-none, of-some}
-use Rattle.slot.proofs.Logic.{and-left, and-right}
 use Rattle.rules.specs.Model.{Model, lastStamp}
-use Rattle.rules.specs.State.{State, Slot, idle, opened, locking, twilight, publishing, cellCount, cellAt, slotAt, isOpen, isLocking, isTwilight, isPublishing}
-use Rattle.rules.specs.StateRight.{isIdle}
+use Rattle.rules.specs.State.{State, cellCount, cellAt, slotAt}
 use Rattle.rules.specs.Cells.{heldByOther, newer, obstacle}
-use Rattle.rules.specs.Outcome.{Outcome, refused, accepted, refuseIf, insideCells, fittingValue, inLog, foundOr, belowLastStamp}
-use Rattle.rules.specs.Steps.{begin, readShared, read, write, illegalWrite, close, lock, enter, reread, update, illegalUpdate, ask, reload, ignore, finish, publish, giveUp}
+use Rattle.rules.specs.Outcome.{Outcome, refused, accepted, whenTwilight, refuseIf, insideCells, fittingValue, inLog, foundOr, belowLastStamp}
+use Rattle.rules.specs.Steps.{answer, begin, readShared, read, write, illegalWrite, close, lock, enter, reread, update, illegalUpdate, ask, reload, ignore, finish, publish, giveUp}
 use Rattle.rules.specs.Step.{Call, insideSlots, stepOf, step}
 use Rattle.rules.specs.Layout.{stateOf}
 use Rattle.rules.specs.AreaRight.{wellFormed}
 use Rattle.rules.specs.Area.{answered, stepOnBytes}
 use Rattle.rules.specs.Run.{call}
-use Rattle.rules.specs.Allowed.{Row, allowed}
+use Rattle.rules.specs.Allowed.{allowed}
 use Rattle.rules.proofs.Cases.{cond-case, found-case, log-case, idle-case, open-case, locking-case, twilight-case, publishing-case, uncommitted-case}
 use Rattle.rules.specs.Codes.{stepOutside, slotOutside, notAllowed, cellOutside, valueIllegal, kindDiffers, notInLog, logFull, readConflicts, cellHeld, stampsSpent, outcomeCode, Ending, refusal, outcome, endingCode, firstOf, tableEnding}
 use Rattle.rules.specs.LowestCode.{ending, LowestCode}
@@ -52,6 +49,12 @@ tested : (t : Bool) (r : Reply) (o : Outcome) (e : Ending) → Ends e o → Ends
 tested true r o e f = refl
 tested false r o e f = f
 
+-- .. or that the table asks beside another one, which doesn't apply
+tested-beside : (t : Bool) (r : Reply) (o : Outcome) (e : Ending) → Ends e o → Ends (cond (t or false) (refusal (replyCode r)) e) (refuseIf t r o)
+unfolding _or_
+tested-beside true r o e f = refl
+tested-beside false r o e f = f
+
 -- a log's entry of a cell is there exactly if some entry passes
 found : {A : Type 0} (f : A → Bool) (l : List A) (o : A → Outcome) (other : Outcome) (e : Ending)
     → ((x : A) → any f l ≡ true → Ends e (o x)) → (any f l ≡ false → Ends e other) → Ends e (foundOr (first f l) o other)
@@ -60,12 +63,6 @@ found f l o other e there gone = found-case (Ends e) (first f l) o other (λ x p
 logged : {A : Type 0} (f : A → Bool) (l : List A) (o : A → Outcome) (e : Ending)
     → (any f l ≡ false → Ends e (refused NotInLog)) → ((x : A) → any f l ≡ true → Ends e (o x)) → Ends e (inLog (first f l) o)
 logged f l o e gone there = log-case (Ends e) (first f l) o (λ p. gone (of-none f l p)) (λ x p. there x (of-some f l x p))
-
--- .. or that the table asks beside another one, which doesn't apply
-tested-beside : (t : Bool) (r : Reply) (o : Outcome) (e : Ending) → Ends e o → Ends (cond (t or false) (refusal (replyCode r)) e) (refuseIf t r o)
-unfolding _or_
-tested-beside true r o e f = refl
-tested-beside false r o e f = f
 
 -- held and newer have one code
 conflicts : (held new : Bool) (holder : ℕ) (o : Outcome) (e : Ending) → Ends e o
@@ -164,14 +161,21 @@ module _ (M : Model) (S : State) (slot c kind word : ℕ) where
       (locking-case (Ends _) (slotAt S i) _ (λ p. rw p) λ taken start reads writes x.
       rw x (none-missing (ltb taken (length writes)) _ _ (stamped _ _ refl)))
 
-  reread-row : Numbered 7
-  unfolding table reread
-  reread-row =
+  -- reread and ask, which the table treats alike
+  from-read-log : (o : ReadEntry → Outcome) → ((e : ReadEntry) → Ends (outcome 0) (o e))
+      → Ends (tableEnding M S (call 7 slot c kind word))
+      (insideSlots M slot (whenTwilight (slotAt S i) λ ignoring start commit reads writes. insideCells S c (inLog (readEntry reads c) o)))
+  unfolding table
+  from-read-log o done =
       inside _ _
       (twilight-case (Ends _) (slotAt S i) _ (λ p. rw p) λ ignoring start commit reads writes x.
       rw x
       (below _ _
-      (logged (λ (e : ReadEntry). eqb (e .cell) c) reads _ _ (λ r. rw r) λ e r. rw r)))
+      (logged (λ (e : ReadEntry). eqb (e .cell) c) reads _ _ (λ r. rw r) λ e r. rw r (done e))))
+
+  reread-row : Numbered 7
+  unfolding table reread
+  reread-row = from-read-log (λ e. accepted (answer S c (e .word)) S) (λ e. refl)
 
   update-row : legalWord kind word ≡ true → Ends (tableEnding M S (call 8 slot c kind word)) (insideSlots M slot (update M S i c (valueOf kind word)))
   unfolding table update
@@ -192,12 +196,7 @@ module _ (M : Model) (S : State) (slot c kind word : ℕ) where
 
   ask-row : Numbered 9
   unfolding table ask
-  ask-row =
-      inside _ _
-      (twilight-case (Ends _) (slotAt S i) _ (λ p. rw p) λ ignoring start commit reads writes x.
-      rw x
-      (below _ _
-      (logged (λ (e : ReadEntry). eqb (e .cell) c) reads _ _ (λ r. rw r) λ e r. rw r)))
+  ask-row = from-read-log (λ e. accepted (Verdict (e .mark)) S) (λ e. refl)
 
   reload-row : Numbered 10
   unfolding table reload obstacle
@@ -241,6 +240,7 @@ module _ (M : Model) (S : State) (slot c kind word : ℕ) where
   with-update true legal = rw legal (update-row legal)
   with-update false illegal = rw illegal (illegal-update-row illegal)
 
+  -- a number outside 1 to 14
   outside : (number : ℕ) → 14 < number → Numbered number
   unfolding table
   outside number far = rw (le-leb 1 number (omega arith), lt-leb number 14 far)

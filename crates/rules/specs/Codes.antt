@@ -78,7 +78,7 @@ module _ (M : Model) (S : State) (a : Call) where
   unfoldable pub cellOutside : Bool
   cellOutside = (isRead or isWrite or isReread or isUpdate or isAsk) and leb (cellCount S) (a .cell)
 
-  -- 6: write, update: kind outside 1 to 3 or word illegal for it
+  -- 6: write, update: kind outside 1 to 3 or word illegal for it (no other kind has a legal word)
   unfoldable pub valueIllegal : Bool
   valueIllegal = (isWrite or isUpdate) and not (legalWord (a .kind) (a .word))
 
@@ -88,13 +88,13 @@ module _ (M : Model) (S : State) (a : Call) where
 
   -- 8: reread, ask: cell not in the read log; update: not in the write log
   unfoldable pub notInLog : Bool
-  notInLog = (isReread or isAsk) and not inReadLog or isUpdate and not inWriteLog
+  notInLog = ((isReread or isAsk) and not inReadLog) or (isUpdate and not inWriteLog)
 
-  -- 9: read or write needs a new entry and that log has 16 (more than 16 is never well formed)
+  -- 9: read or write needs a new entry and that log has 16 (it has no more where logs are right)
   unfoldable pub logFull : Bool
   logFull =
-      readsShared and leb readCapacity (length (readsOf own))
-      or isWrite and not inWriteLog and leb writeCapacity (length (writesOf own))
+      (readsShared and leb readCapacity (length (readsOf own)))
+      or (isWrite and not inWriteLog and leb writeCapacity (length (writesOf own)))
 
   -- 10: read from a shared cell that is held by another slot or has a stamp above start
   unfoldable pub readConflicts : Bool
@@ -103,13 +103,14 @@ module _ (M : Model) (S : State) (a : Call) where
   -- 11: lock: the cell is held by another, the lowest of the write log not yet taken; reload: some read cell is held by another
   unfoldable pub cellHeld : Bool
   cellHeld =
-      isLock and heldByAnother (getD (writesOf own) (takenOf own) noWrite .cell)
-      or isReload and any (λ (e : ReadEntry). heldByAnother (e .cell)) (readsOf own)
+      (isLock and heldByAnother (getD (writesOf own) (takenOf own) noWrite .cell))
+      or (isReload and any (λ (e : ReadEntry). heldByAnother (e .cell)) (readsOf own))
 
   -- 12: enter, reload: the clock is 2^64 − 1
   unfoldable pub stampsSpent : Bool
   stampsSpent = (isEnter or isReload) and eqb (S .clock) (lastStamp M)
 
+  -- in the order in which they are tested: a new code is a line in its place
   abbrev pub codeTable : List Row
   codeTable =
       2 when stepOutside
