@@ -28,7 +28,6 @@ use Rattle.history.specs.AreaHistory.{areaHistory}
 use Rattle.history.proofs.Keeps.{keeps}
 use Rattle.history.proofs.Keeps.OnBytes.{answered-reply, stepped-packed}
 use Rattle.history.proofs.Histories.{histories}
-use Rattle.fresh.specs.LaidOut.{LaidOut}
 use Rattle.crocktendril.specs.Contract.{Stepped}
 use Rattle.crocktendril.specs.Demands.{Demand1, Demand2, Made, inTurn, lastLeft, happened, Demand3AtC}
 use Rattle.crocktendril.proofs.Words.{step-word}
