@@ -104,10 +104,11 @@ fn free_cells(s: &mut [u8], i: u8)
     }
 }
 
-// Clears slot `i` throughout, with all cells freed that it holds.
-pub fn store_freed(s: &mut [u8], i: u8)
+// Stores slot `i` idle, with all cells freed that it holds: its record is zero throughout, and so its bytes are cleared in place.
+pub fn store_freed(s: &mut [u8], i: u8, v: SlotRecord)
     requires { ⌜ Good (now s) × (i < 8) ⌝ }
-    ensures { λ r. ⌜ now (s .exit) ≡ slotFreedStored (now (s .entry)) i empty ⌝ }
+    requires { ⌜ v ≡ empty ⌝ }
+    ensures { λ r. ⌜ now (s .exit) ≡ slotFreedStored (now (s .entry)) i v ⌝ }
 {
     let at = crate::slot_offset(s, i);
     free_cells(s, i);

@@ -27,7 +27,8 @@ pub fn begin(s: &mut [u8], i: u8) -> Reply
         return Reply::NotAllowed;
     }
     let start = area::clock(s);
-    stores::store_fields(s, i, SlotRecord::begun(start));
+    let v = area::fields_at(s, i);
+    stores::store_fields(s, i, v.begun(start));
     Reply::Done
 }
 
@@ -189,6 +190,7 @@ pub fn give_up(s: &mut [u8], i: u8) -> Reply
     if phase == 4 {
         return Reply::NotAllowed;
     }
-    stores::store_freed(s, i);
+    let v = area::fields_at(s, i);
+    stores::store_freed(s, i, v.idled());
     Reply::Done
 }

@@ -20,7 +20,7 @@ use Rattle.twilight.proofs.OpeningLaws.Did.{Laid}
 use Rattle.twilight.proofs.OpeningLaws.Known.{Known}
 use Rattle.twilight.proofs.OpeningLaws.Room.{room}
 
-pub begun-next : {w : SlotRecord} (start : ℕ) → w ≡ begun start → Laid w (opened start [] [])
+pub begun-next : {w : SlotRecord} (start : ℕ) → w ≡ begun empty start → Laid w (opened start [] [])
 begun-next start e = record { is = e }
 
 pub empty-next : {w : SlotRecord} → w ≡ empty → Laid w idle

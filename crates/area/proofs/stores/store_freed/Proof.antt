@@ -1,5 +1,5 @@
 -- `store_freed` meets its contract: the cells are freed first, and the slot is cleared in the packed state that this leaves.
-use mathlib.Core.Path.{ap, _∙_}
+use mathlib.Core.Path.{sym, ap, _∙_}
 use borrow.Author.Needs.{needs}
 use lib.ListN.{length-map}
 use Rattle.slot.specs.Layout.{empty}
@@ -10,7 +10,7 @@ use Rattle.rules.specs.Layout.{lay}
 use Rattle.rules.proofs.LayView.{view-lay}
 use Rattle.rules.proofs.AreaRead.{count-read, slots-read}
 use Rattle.area.specs.Good.{stateIn}
-use Rattle.area.specs.Stores.{freedCells}
+use Rattle.area.specs.Stores.{freedCells, slotFreedStored}
 use Rattle.area.proofs.Stored.{slot-stored}
 use Rattle.area.proofs.stores.store_freed.Statement.{statement}
 use Rattle.area.proofs.stores.store_freed.Tie as tie
@@ -30,10 +30,15 @@ same-length c = search needs
 returns : tie.Need-returns
 unfolding freeAll
 returns c =
-    let l = (c .before .before .before .before .before .before .before .before .before .before .before .args .s .now) in
-    let i = (c .before .before .before .before .before .before .before .before .before .before .before .args .i) in
-    slot-stored (freedCells i (stateIn l)) _ i empty (c .before .before .before .before .before .before .free-cells .last .0) (c .before .before .clear .last .0) _ (slots-read controller l)
-    (length-map (stateIn l .cells) _ ∙ count-read controller l) (c .before .before .before .before .before .before .before .before .before .before .before .pre .1) (ap lay (view-lay idle)) (c .before .before .before .before .before .before .free-cells .ensures) (c .before .before .before .before .before .before .before .before .slot-offset .ensures) (c .before .before .clear .ensures)
+    let clear = let c : tie.After-clear = search in c .clear in
+    let freed = let c : tie.After-free-cells = search in c .free-cells in
+    let place = let c : tie.After-slot-offset = search in c .slot-offset .ensures in
+    let start = let c : tie.After-slot-offset = search in let c : tie.Start = search in c in
+    let l = start .args .s .now in
+    let i = start .args .i in
+    slot-stored (freedCells i (stateIn l)) _ i empty (freed .last .0) (clear .last .0) _ (slots-read controller l)
+    (length-map (stateIn l .cells) _ ∙ count-read controller l) (start .pre .0 .1) (ap lay (view-lay idle)) (freed .ensures) place (clear .ensures)
+    ∙ ap (slotFreedStored l i) (sym (start .pre .1))
 
 pub store-freed-spec : {M : Type 1} → statement M
 store-freed-spec =

@@ -26,21 +26,34 @@ returns c = refuses _ (begin-4 controller _ _ _ refl (other (c .before .phase-at
 clock-requires : tie.Need-clock-requires
 clock-requires c κs = search needs
 
+fields-at-requires : tie.Need-fields-at-requires
+fields-at-requires c κs = search needs
+
 begun-requires : tie.Need-begun-requires
 begun-requires c κs = search needs
 
 store-fields-requires : tie.Need-store-fields-requires
 store-fields-requires c κs =
-    let idle = empty-phase (slotAt (stateOf controller (c .before .before .before .before .before .before .before .before .args .s .now)) (c .before .before .before .before .before .before .before .before .args .i)) (same (c .before .before .before .before .before .phase-at .ensures) (c .before .before .before .before .if1 .left)) in
-    (((c .before .before .before .before .before .before .before .before .pre .0), (c .before .before .before .before .before .before .before .before .pre .1)), storable (begun-next _ (begun-fields _ _ idle (c .begun .ensures))))
+    let made = c .begun .ensures in
+    let left = let c : tie.Else1 = search in c .if1 .left in
+    let asked = let c : tie.After-phase-at = search in c .phase-at .ensures in
+    let start = let c : tie.Start = search in c in
+    let idle = empty-phase (slotAt (stateOf controller (start .args .s .now)) (start .args .i)) (same asked left) in
+    (start .pre, storable (begun-next _ (begun-fields _ _ idle made)))
 
 same-length-2 : tie.Need-same-length-2
 same-length-2 c = search needs
 
 returns-2 : tie.Need-returns-2
 returns-2 c =
-    let idle = empty-phase (slotAt (stateOf controller (c .before .before .before .before .before .before .before .before .before .before .before .args .s .now)) (c .before .before .before .before .before .before .before .before .before .before .before .args .i)) (same (c .before .before .before .before .before .before .before .before .phase-at .ensures) (c .before .before .before .before .before .before .before .if1 .left)) in
-    stored _ _ _ (begin-0 controller _ _ _ refl (same (c .before .before .before .before .before .before .before .before .phase-at .ensures) (c .before .before .before .before .before .before .before .if1 .left)) (c .before .before .before .before .before .clock .ensures)) (begun-next _ (begun-fields _ _ idle (c .before .before .before .begun .ensures))) (c .before .before .store-fields .ensures)
+    let stores = let c : tie.After-store-fields = search in c .store-fields .ensures in
+    let made = let c : tie.After-begun = search in c .begun .ensures in
+    let clock = let c : tie.After-clock = search in c .clock .ensures in
+    let left = let c : tie.Else1 = search in c .if1 .left in
+    let asked = let c : tie.After-phase-at = search in c .phase-at .ensures in
+    let start = let c : tie.Else1 = search in let c : tie.Start = search in c in
+    let idle = empty-phase (slotAt (stateOf controller (start .args .s .now)) (start .args .i)) (same asked left) in
+    stored _ _ _ (begin-0 controller _ _ _ refl (same asked left) clock) (begun-next _ (begun-fields _ _ idle made)) stores
 
 pub begin-spec : {M : Type 1} → statement M
 begin-spec =
@@ -50,6 +63,7 @@ begin-spec =
     same-length
     returns
     clock-requires
+    fields-at-requires
     begun-requires
     store-fields-requires
     same-length-2

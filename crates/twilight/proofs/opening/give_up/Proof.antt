@@ -25,6 +25,12 @@ same-length-2 c = search needs
 returns-2 : tie.Need-returns-2
 returns-2 c = refuses _ (give-up-publishing controller _ _ _ refl (same (c .before .before .phase-at .ensures) (c .if2 .taken)))
 
+fields-at-requires : tie.Need-fields-at-requires
+fields-at-requires c κs = search needs
+
+idled-requires : tie.Need-idled-requires
+idled-requires c κs = search needs
+
 store-freed-requires : tie.Need-store-freed-requires
 store-freed-requires c κs = search needs
 
@@ -32,7 +38,13 @@ same-length-3 : tie.Need-same-length-3
 same-length-3 c = search needs
 
 returns-3 : tie.Need-returns-3
-returns-3 c = stored _ _ _ (give-up-0 controller _ _ _ refl (other (c .before .before .before .before .before .before .phase-at .ensures) (c .before .before .before .before .before .if1 .left)) (other (c .before .before .before .before .before .before .phase-at .ensures) (c .before .before .before .before .if2 .left))) (empty-next refl) (c .before .before .store-freed .ensures)
+returns-3 c =
+    let stores = let c : tie.After-store-freed = search in c .store-freed .ensures in
+    let made = let c : tie.After-idled = search in c .idled .ensures in
+    let unpublished = let c : tie.Else2 = search in c .if2 .left in
+    let busy = let c : tie.Else1 = search in c .if1 .left in
+    let asked = let c : tie.After-phase-at = search in c .phase-at .ensures in
+    stored _ _ _ (give-up-0 controller _ _ _ refl (other asked busy) (other asked unpublished)) (empty-next made) stores
 
 pub give-up-spec : {M : Type 1} → statement M
 give-up-spec =
@@ -43,6 +55,8 @@ give-up-spec =
     returns
     same-length-2
     returns-2
+    fields-at-requires
+    idled-requires
     store-freed-requires
     same-length-3
     returns-3)

@@ -21,8 +21,14 @@ same-length c = search needs
 returns : tie.Need-returns
 returns c = refuses _ (finish-4 controller _ _ refl (other (c .before .phase-at .ensures) (c .if1 .taken)))
 
+fields-at-requires : tie.Need-fields-at-requires
+fields-at-requires c κs = search needs
+
 spoilt-requires : tie.Need-spoilt-requires
 spoilt-requires c κs = search needs
+
+idled-requires : tie.Need-idled-requires
+idled-requires c κs = search needs
 
 store-freed-requires : tie.Need-store-freed-requires
 store-freed-requires c κs = search needs
@@ -31,24 +37,41 @@ same-length-2 : tie.Need-same-length-2
 same-length-2 c = search needs
 
 returns-2 : tie.Need-returns-2
-returns-2 c = leaves _ (finish-13 controller _ _ refl (same (c .before .before .before .before .before .before .before .before .phase-at .ensures) (c .before .before .before .before .before .before .before .if1 .left)) (c .before .before .before .before .before .spoilt .ensures) (c .before .before .before .before .if2 .taken) refl) (c .before .before .store-freed .ensures)
-
-fields-at-requires : tie.Need-fields-at-requires
-fields-at-requires c κs = search needs
+returns-2 c =
+    let stored = let c : tie.After-store-freed = search in c .store-freed .ensures in
+    let made = let c : tie.After-idled = search in c .idled .ensures in
+    let so = let c : tie.Then2 = search in c .if2 .taken in
+    let unsound = let c : tie.After-spoilt = search in c .spoilt .ensures in
+    let left = let c : tie.Else1 = search in c .if1 .left in
+    let asked = let c : tie.After-phase-at = search in c .phase-at .ensures in
+    leaves _ (finish-13 controller _ _ refl (same asked left) unsound so made) stored
 
 finished-requires : tie.Need-finished-requires
 finished-requires c κs = search needs
 
 store-fields-requires : tie.Need-store-fields-requires
 store-fields-requires c κs =
-    let x = slotAt (stateIn (c .before .before .before .before .before .before .before .before .before .before .before .args .s .now)) (c .before .before .before .before .before .before .before .before .before .before .before .args .i) in
-    (((c .before .before .before .before .before .before .before .before .before .before .before .pre .0), (c .before .before .before .before .before .before .before .before .before .before .before .pre .1)), finished-stands x _ refl (same (c .before .before .before .before .before .before .before .before .phase-at .ensures) (c .before .before .before .before .before .before .before .if1 .left)) (finished-fields _ (c .before .before .fields-at .ensures) (c .finished .ensures)) .kept)
+    let made = c .finished .ensures in
+    let taken = let c : tie.After-fields-at = search in c .fields-at .ensures in
+    let left = let c : tie.Else1 = search in c .if1 .left in
+    let asked = let c : tie.After-phase-at = search in c .phase-at .ensures in
+    let start = let c : tie.Else1 = search in let c : tie.Start = search in c in
+    let x = slotAt (stateIn (start .args .s .now)) (start .args .i) in
+    (start .pre, finished-stands x _ refl (same asked left) (finished-fields _ taken made) .kept)
 
 same-length-3 : tie.Need-same-length-3
 same-length-3 c = search needs
 
 returns-3 : tie.Need-returns-3
-returns-3 c = leaves _ (finish-0 controller _ _ refl (same (c .before .before .before .before .before .before .before .before .before .before .before .phase-at .ensures) (c .before .before .before .before .before .before .before .before .before .before .if1 .left)) (c .before .before .before .before .before .before .before .before .spoilt .ensures) (c .before .before .before .before .before .before .before .if2 .left) (finished-fields _ (c .before .before .before .before .before .fields-at .ensures) (c .before .before .before .finished .ensures))) (c .before .before .store-fields .ensures)
+returns-3 c =
+    let stored = let c : tie.After-store-fields = search in c .store-fields .ensures in
+    let made = let c : tie.After-finished = search in c .finished .ensures in
+    let never = let c : tie.Else2 = search in c .if2 .left in
+    let unsound = let c : tie.After-spoilt = search in c .spoilt .ensures in
+    let taken = let c : tie.After-fields-at = search in c .fields-at .ensures in
+    let left = let c : tie.Else1 = search in c .if1 .left in
+    let asked = let c : tie.After-phase-at = search in c .phase-at .ensures in
+    leaves _ (finish-0 controller _ _ refl (same asked left) unsound never (finished-fields _ taken made)) stored
 
 pub finish-spec : {M : Type 1} → statement M
 finish-spec =
@@ -57,11 +80,12 @@ finish-spec =
     phase-at-requires
     same-length
     returns
+    fields-at-requires
     spoilt-requires
+    idled-requires
     store-freed-requires
     same-length-2
     returns-2
-    fields-at-requires
     finished-requires
     store-fields-requires
     same-length-3
