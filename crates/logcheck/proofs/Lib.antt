@@ -1,0 +1,6 @@
+pub mod Chains
+pub mod CellPlaces
+pub mod Words
+pub mod Tables
+pub mod LogLaws
+pub mod Unique

@@ -1,0 +1,6 @@
+pub mod Zero
+pub mod MarkLaws
+pub mod NumberLaws
+pub mod SlotLaws
+pub mod SlotPlaces
+pub mod Unique
