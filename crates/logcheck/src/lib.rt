@@ -1,4 +1,4 @@
-// Whether the logs of a slot are right: cells below n, words legal, no cell twice, the write log ascending.
+// Whether the logs of a slot are right: cells below n, words legal, no cell twice, the write log ascending; unused entries zero; the marks.
 ghost use mathlib.Core.Path.{_≡_};
 ghost use Prim.Native.Nat.{_+_, _≤_, _<_};
 ghost use lib.ListN.{length, drop};
@@ -9,8 +9,11 @@ ghost use Rattle.slot.specs.Logs.{readLog, writeLog};
 ghost use Rattle.rules.specs.Model.{controller};
 ghost use Rattle.rules.specs.Layout.{cellsIn};
 ghost use Rattle.rules.specs.LogsRight.{loggedRight, readsRight, writesRight};
+ghost use Rattle.rules.specs.AreaRight.{zeros};
 ghost use Rattle.logcheck.specs.Frame.{Framed};
 ghost use Rattle.logcheck.specs.Logged.{Counted, logsRightIn};
+
+pub mod marks;
 
 // Where the cells begin, the bytes of a cell and the bytes of a slot.
 pub const CELLS_AT: usize = 14;
@@ -72,6 +75,20 @@ pub fn legal_at(kind: u8, s: &[u8], at: usize) -> bool
         return value::legal(3, word_at(s, at));
     }
     false
+}
+
+// Whether the `count` bytes from `from` on are zero.
+pub fn all_zero(s: &[u8], from: usize, count: usize) -> bool
+    requires { ⌜ from + count ≤ length (now s) ⌝ }
+    ensures { λ r. ⌜ r ≡ zeros count (drop from (now (s .entry))) ⌝ }
+{
+    let mut any: u8 = 0;
+    let mut i = 0;
+    while i < count {
+        any |= s[from + i];
+        i += 1;
+    }
+    any == 0
 }
 
 // Whether a log may have this cell with the word at `at` in `t`.

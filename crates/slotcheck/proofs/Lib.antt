@@ -1,5 +1,3 @@
-pub mod Zero
-pub mod MarkLaws
 pub mod NumberLaws
 pub mod SlotLaws
 pub mod SlotPlaces

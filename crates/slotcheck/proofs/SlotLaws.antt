@@ -12,8 +12,9 @@ use Rattle.rules.specs.Model.{controller}
 use Rattle.rules.specs.Layout.{cellsIn}
 use Rattle.rules.specs.AreaRight.{countsRight, busyRight, unusedZero}
 use Rattle.logcheck.specs.Logged.{Counted, logsRightIn}
+use Rattle.logcheck.specs.Marked.{markedRight}
 use Rattle.logcheck.proofs.Chains.{and-comm, and-swap}
-use Rattle.slotcheck.specs.SlotParts.{numbersRight, markedRight}
+use Rattle.slotcheck.specs.SlotParts.{numbersRight}
 
 -- right counts
 pub counted : (l : List ℕ) → 197 ≤ length l → countsRight (slotOf 8 l) ≡ true → Counted l

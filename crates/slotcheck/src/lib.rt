@@ -1,11 +1,11 @@
 // Whether the slots of an area are right but for the holders: of each its phase, counts, logs, stamps, unused entries and marks; then the commit stamps apart.
 ghost use mathlib.Core.Path.{_≡_};
-ghost use Prim.Native.Nat.{_+_, _≤_, _<_};
-ghost use lib.ListN.{length, drop};
+ghost use Prim.Native.Nat.{_≤_, _<_};
+ghost use lib.ListN.{length};
 ghost use Rattle.slot.specs.Layout.{slotOf};
 ghost use Rattle.rules.specs.Model.{controller};
 ghost use Rattle.rules.specs.Layout.{cellsIn, slotPlace};
-ghost use Rattle.rules.specs.AreaRight.{zeros, busyRight};
+ghost use Rattle.rules.specs.AreaRight.{busyRight};
 ghost use Rattle.logcheck.specs.Frame.{Framed};
 ghost use Rattle.slotcheck.specs.SlotParts.{slotRightIn, slotsRight};
 use logcheck::CELL;
@@ -13,26 +13,11 @@ use logcheck::CELLS_AT;
 use logcheck::PHASE_AT;
 use logcheck::SLOT;
 
-mod marks;
 mod numbers;
 pub mod stamps;
 
 // The number of slots.
 pub const SLOTS: usize = 8;
-
-// Whether the `count` bytes from `from` on are zero.
-fn all_zero(s: &[u8], from: usize, count: usize) -> bool
-    requires { ⌜ from + count ≤ length (now s) ⌝ }
-    ensures { λ r. ⌜ r ≡ zeros count (drop from (now (s .entry))) ⌝ }
-{
-    let mut any: u8 = 0;
-    let mut i = 0;
-    while i < count {
-        any |= s[from + i];
-        i += 1;
-    }
-    any == 0
-}
 
 // A slot that is not idle. The unused entries come before the marks: zero, they may be gathered with the others.
 fn busy_right(s: &[u8], n: usize, clock: u64, t: &[u8]) -> bool
@@ -48,10 +33,10 @@ fn busy_right(s: &[u8], n: usize, clock: u64, t: &[u8]) -> bool
     if !numbers::numbers_right(t, clock) {
         return false;
     }
-    if !marks::unused_zero(t) {
+    if !logcheck::marks::unused_zero(t) {
         return false;
     }
-    marks::marked_right(t)
+    logcheck::marks::marked_right(t)
 }
 
 // Phases 0 to 4; an idle slot all zero. `t` are the bytes from the slot on, in an area `s` of `n` cells.
@@ -64,7 +49,7 @@ fn slot_right(s: &[u8], n: usize, clock: u64, t: &[u8]) -> bool
         return false;
     }
     if phase == 0 {
-        return all_zero(t, 0, SLOT);
+        return logcheck::all_zero(t, 0, SLOT);
     }
     busy_right(s, n, clock, t)
 }

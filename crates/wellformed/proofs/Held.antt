@@ -20,11 +20,12 @@ use Rattle.rules.specs.LogsRight.{writesRight}
 use Rattle.rules.specs.AreaRight.{countsRight, unusedZero, takenRight, busyRight, slotPlaceRight, recordHolds}
 use Rattle.logcheck.specs.Frame.{Framed}
 use Rattle.logcheck.specs.Logged.{Counted, logsRightIn}
+use Rattle.logcheck.specs.Marked.{markedRight}
 use Rattle.logcheck.proofs.Chains.{pick-yes, pick-no}
 use Rattle.logcheck.proofs.Tables.{take-tab}
 use Rattle.logcheck.proofs.CellPlaces.{logged-below}
 use Rattle.logcheck.proofs.LogLaws.{wordIn, writes-at}
-use Rattle.slotcheck.specs.SlotParts.{numbersRight, markedRight}
+use Rattle.slotcheck.specs.SlotParts.{numbersRight}
 use Rattle.slotcheck.proofs.SlotLaws.{counted, busy-order}
 use Rattle.wellformed.specs.Claims.{inPart, Part, SlotRight}
 

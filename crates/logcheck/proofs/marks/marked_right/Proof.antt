@@ -4,11 +4,11 @@ use mathlib.Core.Path.{refl, _∙_, ap}
 use Prim.Native.Nat.{ℕ}
 use borrow.Author.Tests.{eq-eqb, ne-eqb, le-leb, lt-leb}
 use borrow.Author.Needs.{needs}
+use Rattle.logcheck.specs.Marked.{MarksGathered}
 use Rattle.logcheck.proofs.Chains.{pass, stop, or-yes, or-no}
-use Rattle.slotcheck.specs.SlotParts.{MarksGathered}
-use Rattle.slotcheck.proofs.MarkLaws.{Known, marks-over, flag-over, no-mark, some-mark}
-use Rattle.slotcheck.proofs.marks.marked_right.Statement.{statement}
-use Rattle.slotcheck.proofs.marks.marked_right.Tie as tie
+use Rattle.logcheck.proofs.MarkLaws.{Known, marks-over, flag-over, no-mark, some-mark}
+use Rattle.logcheck.proofs.marks.marked_right.Statement.{statement}
+use Rattle.logcheck.proofs.marks.marked_right.Tie as tie
 
 known : (start : tie.Start) (marks : ℕ) → MarksGathered marks 16 (start .args .t .now) → Known (start .args .t .now) marks
 known start marks gathered = record { counted = start .pre .0; unused = start .pre .1; gathered = gathered }

@@ -2,10 +2,10 @@
 use mathlib.Core.Path.{_≡_}
 use Prim.Native.Nat.{_-_, _≤_}
 use native.Mathlib.Omega.{arith}
-use Rattle.slotcheck.specs.SlotParts.{MarksGathered}
-use Rattle.slotcheck.proofs.MarkLaws.{gathered-start, gathered-next}
-use Rattle.slotcheck.proofs.marks.marks_of.Statement.{statement}
-use Rattle.slotcheck.proofs.marks.marks_of.Tie as tie
+use Rattle.logcheck.specs.Marked.{MarksGathered}
+use Rattle.logcheck.proofs.MarkLaws.{gathered-start, gathered-next}
+use Rattle.logcheck.proofs.marks.marks_of.Statement.{statement}
+use Rattle.logcheck.proofs.marks.marks_of.Tie as tie
 
 abbrev Inv-loop : tie.InvT-loop
 Inv-loop t any₀ i₀ any i = (i ≤ 16) × (MarksGathered any i t)

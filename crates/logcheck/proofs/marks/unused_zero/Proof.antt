@@ -2,10 +2,10 @@
 use mathlib.Core.Path.{refl, _∙_}
 use native.Mathlib.Omega.{arith}
 use borrow.Author.Needs.{needs}
 use Rattle.logcheck.proofs.Chains.{pass, stop, passes, fails}
-use Rattle.slotcheck.proofs.NumberLaws.{unused-places}
-use Rattle.slotcheck.proofs.marks.unused_zero.Statement.{statement}
-use Rattle.slotcheck.proofs.marks.unused_zero.Tie as tie
+use Rattle.logcheck.proofs.Zero.{unused-places}
+use Rattle.logcheck.proofs.marks.unused_zero.Statement.{statement}
+use Rattle.logcheck.proofs.marks.unused_zero.Tie as tie
 
 shared-slice-read-index : tie.Need-shared-slice-read-index
 shared-slice-read-index c = search needs

@@ -5,9 +5,9 @@ use native.Mathlib.Omega.{arith}
 use lib.Dec.{eqb}
 use lib.ListN.{drop}
 use Rattle.rules.specs.AreaRight.{zeros}
-use Rattle.slotcheck.proofs.Zero.{zero-start, zero-next}
-use Rattle.slotcheck.proofs.all_zero.Statement.{statement}
-use Rattle.slotcheck.proofs.all_zero.Tie as tie
+use Rattle.logcheck.proofs.Zero.{zero-start, zero-next}
+use Rattle.logcheck.proofs.all_zero.Statement.{statement}
+use Rattle.logcheck.proofs.all_zero.Tie as tie
 
 abbrev Inv-loop : tie.InvT-loop
 Inv-loop s from count any₀ i₀ any i = (i ≤ count) × (eqb any 0 ≡ zeros i (drop from s))

@@ -2,7 +2,7 @@
 use mathlib.Core.Bool.{Bool, false}
 use mathlib.Core.List.{List}
 use mathlib.Core.Path.{_≡_, refl, sym, _∙_, ap, ap₂}
-use Prim.Native.Nat.{ℕ, zero, suc, _+_, _*_}
+use Prim.Native.Nat.{ℕ, zero, suc, _+_, _*_, _-_, _≤_}
 use native.Mathlib.Nat.{add-zero, mul-zero, mul-suc, mul-add, add-suc, add-assoc}
 use native.Mathlib.Numerals.{add-one}
 use native.Mathlib.Omega.{arith}
@@ -11,9 +11,10 @@ use lib.Bits.{bitOr, or-add-and, and-le-l, and-le-r}
 use lib.Dec.{eqb, ltb}
 use lib.ListN.{getD, drop}
 use lib.Seq.{getD-drop, drop-drop}
+use Rattle.slot.specs.Layout.{slotOf}
 use Rattle.slot.specs.Logic.{_and_, _or_, every}
 use Rattle.slot.proofs.Logic.{and-intro, and-left, and-right, and-true, and-assoc, false-or, true-or, both-ways, every-of}
-use Rattle.rules.specs.AreaRight.{zeros}
+use Rattle.rules.specs.AreaRight.{zeros, unusedZero}
 
 -- a bitwise or is 0 exactly if both sides are
 pub or-zero : (a b : ℕ) → eqb (bitOr a b) 0 ≡ (eqb a 0 and eqb b 0)
@@ -60,7 +61,15 @@ module _ (size at count : ℕ) (l : List ℕ) where
       rw (add-suc, mul-suc, zeros-add (size * m) size (drop (at + size * count) l))
       (ap₂ _and_ (unused-from m) (ap (λ (b : Bool). b or zeros size (drop (at + size * (count + m)) l)) past ∙ false-or _ ∙ last))
 
-  pub unused-zero : (n m : ℕ) → n ≡ count + m
+  unused-zero : (n m : ℕ) → n ≡ count + m
       → zeros (size * m) (drop (at + size * count) l) ≡ every n (λ i. ltb i count or zeros size (drop (at + size * i) l))
   unfolding used-or-zero
   unused-zero n m e = rw e (sym (unused-from m))
+
+-- the unused entries of both logs
+pub unused-places : (l : List ℕ) (reads writes : ℕ) → reads ≡ getD l 3 0 → writes ≡ getD l 4 0 → reads ≤ 16 → writes ≤ 16
+    → (zeros (6 * (16 - reads)) (drop (21 + 6 * reads) l) and zeros (5 * (16 - writes)) (drop (117 + 5 * writes) l)) ≡ unusedZero 8 l (slotOf 8 l)
+unfolding unusedZero slotOf
+unused-places l reads writes d e h k =
+    rw (← d, ← e)
+    (ap₂ _and_ (unused-zero 6 21 reads l 16 (16 - reads) (omega arith)) (unused-zero 5 117 writes l 16 (16 - writes) (omega arith)))
