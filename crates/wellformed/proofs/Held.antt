@@ -18,13 +18,15 @@ use Rattle.rules.specs.Model.{controller}
 use Rattle.rules.specs.Layout.{cellsIn, clockIn}
 use Rattle.rules.specs.LogsRight.{writesRight}
 use Rattle.rules.specs.AreaRight.{countsRight, unusedZero, takenRight, busyRight, slotPlaceRight, recordHolds}
-use Rattle.slotright.specs.Frame.{Framed}
-use Rattle.slotright.specs.SlotParts.{Counted, bothLogsRight, numbersRight, markedRight}
-use Rattle.slotright.proofs.Chains.{pick-yes, pick-no}
-use Rattle.slotright.proofs.Tables.{take-tab}
-use Rattle.slotright.proofs.CellPlaces.{logged-below}
-use Rattle.slotright.proofs.LogLaws.{wordIn, writes-at}
-use Rattle.slotright.proofs.SlotLaws.{counted, busy-order}
+use Rattle.logcheck.specs.Frame.{Framed}
+use Rattle.logcheck.specs.Logged.{Counted, logsRightIn}
+use Rattle.logcheck.specs.Marked.{markedRight}
+use Rattle.logcheck.proofs.Chains.{pick-yes, pick-no}
+use Rattle.logcheck.proofs.Tables.{take-tab}
+use Rattle.logcheck.proofs.CellPlaces.{logged-below}
+use Rattle.logcheck.proofs.LogLaws.{wordIn, writes-at}
+use Rattle.slotcheck.specs.SlotParts.{numbersRight}
+use Rattle.slotcheck.proofs.SlotLaws.{counted, busy-order}
 use Rattle.wellformed.specs.Claims.{inPart, Part, SlotRight}
 
 -- a part of the write log that may be read, and has just the cells that the slot has to hold
@@ -50,18 +52,18 @@ module _ (n : ℕ) (a : List ℕ) (f : Framed n a) (l : List ℕ) (right : SlotR
 
     parts :
         (countsRight (slotOf 8 l)
-        and bothLogsRight (cellsIn controller a) (slotOf 8 l)
+        and logsRightIn a (slotOf 8 l)
         and numbersRight (clockIn controller a) (slotOf 8 l)
         and unusedZero 8 l (slotOf 8 l)
         and markedRight l)
         ≡ true
-    parts = busy-order (cellsIn controller a) (clockIn controller a) l ∙ busy-right
+    parts = busy-order a (clockIn controller a) l ∙ busy-right
 
     counts : Counted l
     counts = counted l (right .size) (and-left _ _ parts)
 
     writes : writesRight (cellsIn controller a) (writeLog (slotOf 8 l)) ≡ true
-    unfolding bothLogsRight
+    unfolding logsRightIn
     writes = and-right _ _ (and-left _ _ (and-right _ _ parts))
 
     taken-right : takenRight (slotOf 8 l) ≡ true

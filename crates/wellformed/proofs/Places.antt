@@ -18,8 +18,8 @@ use Rattle.rules.specs.Layout.{cellOf, countIn}
 use Rattle.rules.specs.LogsRight.{cellCountRight}
 use Rattle.rules.specs.AreaRight.{lengthsAgree, versionRight}
 use Rattle.rules.proofs.Controller.{controller-length}
-use Rattle.slotright.specs.Frame.{Framed}
-use Rattle.slotright.proofs.Chains.{stop, pass}
+use Rattle.logcheck.specs.Frame.{Framed}
+use Rattle.logcheck.proofs.Chains.{stop, pass}
 use Rattle.wellformed.specs.AreaParts.{headerRight}
 use Rattle.wellformed.specs.Claims.{cellDue}
 

@@ -16,9 +16,9 @@ use Rattle.rules.specs.State.{noCell}
 use Rattle.rules.specs.Layout.{cellOf, countIn, cellsIn, slotPlace, recordsIn}
 use Rattle.rules.specs.LogsRight.{cellRight, holdersRight}
 use Rattle.rules.specs.AreaRight.{recordHolds, areaHoldersRight}
-use Rattle.slotright.specs.Frame.{Framed}
-use Rattle.slotright.proofs.Chains.{passes, fails, and-comm, and-swap, every-start, every-next, every-and}
-use Rattle.slotright.proofs.CellPlaces.{length-cells, cell-at}
+use Rattle.logcheck.specs.Frame.{Framed}
+use Rattle.logcheck.proofs.Chains.{passes, fails, and-comm, and-swap, every-start, every-next, every-and}
+use Rattle.logcheck.proofs.CellPlaces.{length-cells, cell-at}
 use Rattle.wellformed.specs.AreaParts.{cellsRight}
 use Rattle.wellformed.specs.Claims.{holderIn, Claimed, cellDue, cellsDue}
 use Rattle.wellformed.proofs.AreaLaws.{cells-all}

@@ -13,7 +13,7 @@ use Rattle.slot.specs.Logs.{writesCell}
 use Rattle.rules.specs.Model.{controller}
 use Rattle.rules.specs.declared.Cell.{Cell}
 use Rattle.rules.specs.Layout.{cellOf, countIn, clockIn}
-use Rattle.slotright.specs.SlotParts.{slotRightIn}
+use Rattle.slotcheck.specs.SlotParts.{slotRightIn}
 
 -- the holder's byte of cell c
 abbrev pub holderIn : List ℕ → ℕ → ℕ

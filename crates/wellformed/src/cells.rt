@@ -3,11 +3,11 @@ ghost use mathlib.Core.Path.{_≡_};
 ghost use Prim.Native.Nat.{_+_, _≤_};
 ghost use lib.ListN.{length, drop};
 ghost use Rattle.rules.specs.Layout.{cellOf};
-ghost use Rattle.slotright.specs.Frame.{Framed};
+ghost use Rattle.logcheck.specs.Frame.{Framed};
 ghost use Rattle.wellformed.specs.Claims.{cellDue, cellsDue};
-use slotright::CELL;
-use slotright::CELLS_AT;
-use slotright::legal_at;
+use logcheck::CELL;
+use logcheck::CELLS_AT;
+use logcheck::legal_at;
 
 // Whether the cell at `at` is right and held by the slot due to it, 0 for none.
 fn cell_right(s: &[u8], at: usize, clock: u64, due: u8) -> bool

@@ -8,19 +8,19 @@ ghost use Rattle.slot.specs.Layout.{slotOf};
 ghost use Rattle.rules.specs.Model.{controller};
 ghost use Rattle.rules.specs.Layout.{countIn, clockIn};
 ghost use Rattle.rules.specs.AreaRight.{recordHolds, areaHoldersRight};
-ghost use Rattle.slotright.specs.Frame.{Framed};
-ghost use Rattle.wellformed.specs.AreaParts.{cellsRight, slotsRight};
+ghost use Rattle.logcheck.specs.Frame.{Framed};
+ghost use Rattle.slotcheck.specs.SlotParts.{slotsRight};
+ghost use Rattle.wellformed.specs.AreaParts.{cellsRight};
 ghost use Rattle.wellformed.specs.Claims.{inPart, Part, SlotRight, Claimed};
 use crate::cells;
-use crate::slots;
-use slotright::CELL;
-use slotright::CELLS_AT;
-use slotright::PHASE_AT;
-use slotright::TAKEN_AT;
-use slotright::WRITE;
-use slotright::WRITE_COUNT_AT;
-use slotright::WRITES_AT;
-use slotright::index;
+use logcheck::CELL;
+use logcheck::CELLS_AT;
+use logcheck::PHASE_AT;
+use logcheck::TAKEN_AT;
+use logcheck::WRITE;
+use logcheck::WRITE_COUNT_AT;
+use logcheck::WRITES_AT;
+use logcheck::index;
 
 // Whether the slot holds the cells in this part of its write log, each of which is then due to it.
 fn claim_part(s: &[u8], slot: u8, t: &[u8], from: usize, to: usize, due: &mut [u8]) -> bool
@@ -68,7 +68,7 @@ pub fn cells_held(s: &[u8], n: usize, clock: u64) -> bool
     let mut due = [0u8; 64];
     let mut k: u8 = 0;
     while k < 8 {
-        if !claim(s, k + 1, slots::slot_place(s, n, k as usize), &mut due) {
+        if !claim(s, k + 1, slotcheck::slot_place(s, n, k as usize), &mut due) {
             return false;
         }
         k += 1;

@@ -3,21 +3,18 @@ ghost use mathlib.Core.Path.{_≡_};
 ghost use Rattle.rules.specs.Model.{controller};
 ghost use Rattle.rules.specs.LogsRight.{cellCountRight};
 ghost use Rattle.rules.specs.AreaRight.{wellFormed};
-ghost use Rattle.slotright.specs.Frame.{Framed};
+ghost use Rattle.logcheck.specs.Frame.{Framed};
 ghost use Rattle.wellformed.specs.AreaParts.{headerRight, partsRight};
-use slotright::CELL;
-use slotright::CELLS_AT;
-use slotright::SLOT;
-use slotright::index;
+use logcheck::CELL;
+use logcheck::CELLS_AT;
+use logcheck::SLOT;
+use logcheck::index;
+use slotcheck::SLOTS;
 
 mod cells;
 mod holders;
-mod slots;
-mod stamps;
 
-// The number of slots, and the bytes of an area beside its cells.
-const SLOTS: usize = 8;
-
+// The bytes of an area beside its cells.
 const BESIDE: usize = CELLS_AT + SLOTS * SLOT;
 
 // n from 1 to 64.
@@ -49,7 +46,7 @@ fn parts_right(s: &[u8], n: usize, clock: u64) -> bool
     requires { ⌜ Framed n (now s) ⌝ }
     ensures { λ r. ⌜ r ≡ partsRight clock (now (s .entry)) ⌝ }
 {
-    slots::slots_right(s, n, clock) && stamps::stamps_apart(s, n)
+    slotcheck::slots_right(s, n, clock) && slotcheck::stamps::stamps_apart(s, n)
 }
 
 // Whether the area is well formed. The slots come before the cells: what they claim is then known, and one pass asks all there is of each cell.

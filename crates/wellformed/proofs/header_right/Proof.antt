@@ -5,7 +5,7 @@ use borrow.Author.Tests.{eq-eqb, ne-eqb}
 use borrow.Author.Needs.{needs}
 use Rattle.rules.specs.Model.{controller}
 use Rattle.rules.specs.LogsRight.{cellCountRight}
-use Rattle.slotright.proofs.Chains.{pass, stop}
+use Rattle.logcheck.proofs.Chains.{pass, stop}
 use Rattle.wellformed.proofs.Places.{other-length, other-field, header-rest}
 use Rattle.wellformed.proofs.header_right.Statement.{statement}
 use Rattle.wellformed.proofs.header_right.Tie as tie

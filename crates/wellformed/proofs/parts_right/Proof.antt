@@ -1,7 +1,7 @@
 -- The two clauses, in their order.
 use mathlib.Core.Path.{sym, _∙_}
 use borrow.Author.Needs.{needs}
-use Rattle.slotright.proofs.Chains.{pass, stop}
+use Rattle.logcheck.proofs.Chains.{pass, stop}
 use Rattle.wellformed.specs.AreaParts.{partsRight}
 use Rattle.wellformed.proofs.parts_right.Statement.{statement}
 use Rattle.wellformed.proofs.parts_right.Tie as tie

@@ -7,7 +7,7 @@ use Rattle.slot.specs.Logic.{_and_}
 use Rattle.slot.proofs.Logic.{and-left}
 use Rattle.rules.specs.Model.{controller}
 use Rattle.rules.specs.AreaRight.{areaHoldersRight}
-use Rattle.slotright.proofs.Chains.{pass, stop, passes, fails}
+use Rattle.logcheck.proofs.Chains.{pass, stop, passes, fails}
 use Rattle.wellformed.specs.AreaParts.{cellsRight, partsRight}
 use Rattle.wellformed.proofs.Places.{framed}
 use Rattle.wellformed.proofs.AreaLaws.{in-order}

@@ -2,7 +2,7 @@
 use mathlib.Core.Path.{refl, _∙_}
 use borrow.Author.Needs.{needs}
 use borrow.Author.Tests.{eq-eqb, ne-eqb, le-leb, lt-leb}
-use Rattle.slotright.proofs.Chains.{pass, stop}
+use Rattle.logcheck.proofs.Chains.{pass, stop}
 use Rattle.wellformed.proofs.Places.{cell-places}
 use Rattle.wellformed.proofs.cells.cell_right.Statement.{statement}
 use Rattle.wellformed.proofs.cells.cell_right.Tie as tie

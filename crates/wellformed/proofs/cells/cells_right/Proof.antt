@@ -7,7 +7,7 @@ use native.Mathlib.Omega.{arith}
 use lib.ListN.{drop, getD}
 use Rattle.slot.specs.Logic.{every}
 use Rattle.rules.specs.Layout.{cellOf}
-use Rattle.slotright.proofs.Chains.{passes, fails, every-start, every-next, every-no, every-yes}
+use Rattle.logcheck.proofs.Chains.{passes, fails, every-start, every-next, every-no, every-yes}
 use Rattle.wellformed.specs.Claims.{cellDue}
 use Rattle.wellformed.proofs.cells.cells_right.Statement.{statement}
 use Rattle.wellformed.proofs.cells.cells_right.Tie as tie

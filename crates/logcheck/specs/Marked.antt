@@ -1,0 +1,21 @@
+-- What "well formed" says of a slot's marks and its ignoring flag, and what the gathered marks tell of it.
+use mathlib.Core.Bool.{Bool, true}
+use mathlib.Core.List.{List}
+use mathlib.Core.Path.{_≡_}
+use Prim.Native.Nat.{ℕ, _+_, _*_}
+use lib.Dec.{eqb, leb}
+use lib.ListN.{getD, drop}
+use Rattle.wire.specs.Table.{tab}
+use Rattle.slot.specs.Logic.{_and_, every}
+use Rattle.slot.specs.Logs.{someMarked}
+use Rattle.slot.specs.Layout.{slotOf, readOf}
+use Rattle.rules.specs.AreaRight.{marksRight, ignoringRight, flagsRight}
+
+-- the marks and the ignoring flag
+unfoldable pub markedRight : List ℕ → Bool
+markedRight l = marksRight (slotOf 8 l) and ignoringRight (slotOf 8 l) and flagsRight 8 l
+
+-- what the bitwise or of the first `count` mark bytes tells of them
+pub record MarksGathered (r count : ℕ) (l : List ℕ) : Type 0 where
+  pub flags : leb r 1 ≡ every count (λ i. leb (getD l (21 + 6 * i + 1) 0) 1)
+  pub some : leb r 1 ≡ true → eqb r 1 ≡ someMarked (tab count (λ i. readOf (drop (21 + 6 * i) l)))

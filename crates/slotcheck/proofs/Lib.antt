@@ -1,0 +1,4 @@
+pub mod NumberLaws
+pub mod SlotLaws
+pub mod SlotPlaces
+pub mod Unique

@@ -1,0 +1,79 @@
+// Whether the slots of an area are right but for the holders: of each its phase, counts, logs, stamps, unused entries and marks; then the commit stamps apart.
+ghost use mathlib.Core.Path.{_≡_};
+ghost use Prim.Native.Nat.{_≤_, _<_};
+ghost use lib.ListN.{length};
+ghost use Rattle.slot.specs.Layout.{slotOf};
+ghost use Rattle.rules.specs.Model.{controller};
+ghost use Rattle.rules.specs.Layout.{cellsIn, slotPlace};
+ghost use Rattle.rules.specs.AreaRight.{busyRight};
+ghost use Rattle.logcheck.specs.Frame.{Framed};
+ghost use Rattle.slotcheck.specs.SlotParts.{slotRightIn, slotsRight};
+use logcheck::CELL;
+use logcheck::CELLS_AT;
+use logcheck::PHASE_AT;
+use logcheck::SLOT;
+
+mod numbers;
+pub mod stamps;
+
+// The number of slots.
+pub const SLOTS: usize = 8;
+
+// A slot that is not idle. The unused entries come before the marks: zero, they may be gathered with the others.
+fn busy_right(s: &[u8], n: usize, clock: u64, t: &[u8]) -> bool
+    requires { ⌜ (Framed n (now s)) × (197 ≤ length (now t)) ⌝ }
+    ensures { λ r. ⌜ r ≡ busyRight controller (cellsIn controller (now (s .entry))) clock (now (t .entry)) (slotOf 8 (now (t .entry))) ⌝ }
+{
+    if !numbers::counts_right(t) {
+        return false;
+    }
+    if !logcheck::logs_right(s, n, t) {
+        return false;
+    }
+    if !numbers::numbers_right(t, clock) {
+        return false;
+    }
+    if !logcheck::marks::unused_zero(t) {
+        return false;
+    }
+    logcheck::marks::marked_right(t)
+}
+
+// Phases 0 to 4; an idle slot all zero. `t` are the bytes from the slot on, in an area `s` of `n` cells.
+fn slot_right(s: &[u8], n: usize, clock: u64, t: &[u8]) -> bool
+    requires { ⌜ (Framed n (now s)) × (197 ≤ length (now t)) ⌝ }
+    ensures { λ r. ⌜ r ≡ slotRightIn (now (s .entry)) clock (now (t .entry)) ⌝ }
+{
+    let phase = t[PHASE_AT];
+    if 4 < phase {
+        return false;
+    }
+    if phase == 0 {
+        return logcheck::all_zero(t, 0, SLOT);
+    }
+    busy_right(s, n, clock, t)
+}
+
+// The bytes from slot `k` on, counted from 0.
+pub fn slot_place(s: &[u8], n: usize, k: usize) -> &[u8]
+    requires { ⌜ (Framed n (now s)) × (k < 8) ⌝ }
+    ensures { λ r. ⌜ now r ≡ slotPlace controller (now (s .entry)) k ⌝ }
+{
+    let at = CELLS_AT + CELL * n + SLOT * k;
+    &s[at..]
+}
+
+// Every slot.
+pub fn slots_right(s: &[u8], n: usize, clock: u64) -> bool
+    requires { ⌜ Framed n (now s) ⌝ }
+    ensures { λ r. ⌜ r ≡ slotsRight clock (now (s .entry)) ⌝ }
+{
+    let mut k = 0;
+    while k < SLOTS {
+        if !slot_right(s, n, clock, slot_place(s, n, k)) {
+            return false;
+        }
+        k += 1;
+    }
+    true
+}
