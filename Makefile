@@ -2,7 +2,8 @@
 # make lib:     the static library for C, target/staticlib/libcrocktendril.a.
 # make example: builds and runs examples/c/two_tasks.c, and compares what it prints.
 # make guide:   builds and runs the program in docs/GUIDE.md, and compares what it prints.
-# make fuzz:    random calls at the C functions against the second program (CALLS, SEED).
+# make guide-sheets: runs the step sheets in docs/GUIDE.md, and compares what they print.
+# make fuzz:    random calls at the C functions against the second program (CALLS, SEED), or one ROUND of a seed again.
 # make bench:   the ratio to the Rust yardstick, the stack and the instructions of each step, the time of a sheet.
 # make run:     proves and builds the program that runs step sheets, and runs SHEET (text or binary) on it.
 # make sheet:   runs SHEET on the second program.
@@ -13,14 +14,19 @@ SHEET ?= examples/sheets/s.txt
 CALLS ?= 2000000
 SEED ?= 1
 LIBRARY := target/staticlib/libcrocktendril.a
+# The crates that the library is made of, and their files. Folders count as files: one that lost a file is newer.
+LIBRARY_CRATES := crocktendril $(shell sed -n 's/^crocktendril: //p' crates.txt)
+LIBRARY_SOURCES := crates.txt $(shell find $(wildcard $(foreach part,src specs proofs,$(LIBRARY_CRATES:%=crates/%/$(part)))))
 STRICT := -pedantic -Wall -Wextra -Werror -O2 -Iinclude
 LINKED := oracle/linked/target/release
 PROGRAM := target/bin/run
 SECOND := oracle/target/release
 # the crates that ask nothing of a caller
 BOUNDARIES := value call line sheet run crocktendril
+# the blocks of the guide that are marked so, one behind the other
+blocks = awk '/^```$(1)$$/ { on = 1; next } /^```$$/ { on = 0 } on' docs/GUIDE.md
 
-.PHONY: test lib program example guide fuzz bench run sheet timeline second linked linked-test sheets-test
+.PHONY: test lib program example guide guide-sheets fuzz bench run sheet timeline second linked linked-test sheets-test
 
 test:
 	@echo "== layout of the sources"
@@ -40,8 +46,8 @@ lib:
 	rt staticlib crocktendril
 	@echo "the library is $(LIBRARY)"
 
-# where it is asked for and not there yet
-$(LIBRARY):
+# where it is asked for, and is missing or older than what it is made of
+$(LIBRARY): $(LIBRARY_SOURCES)
 	$(MAKE) --no-print-directory lib
 
 program:
@@ -58,12 +64,24 @@ example: $(LIBRARY)
 # The C blocks of the guide are one program, and what it prints stands under them.
 guide: $(LIBRARY)
 	@mkdir -p target/c
-	awk '/^```c$$/ { on = 1; next } /^```$$/ { on = 0 } on' docs/GUIDE.md > target/c/guide.c
+	$(call blocks,c) > target/c/guide.c
 	gcc -std=c89 $(STRICT) target/c/guide.c $(LIBRARY) -o target/c/guide
 	target/c/guide > target/c/guide.out
-	awk '/^```text$$/ { on = 1; next } /^```$$/ { on = 0 } on' docs/GUIDE.md | diff - target/c/guide.out
+	$(call blocks,text) | diff - target/c/guide.out
 	python3 docs/img/phases.py | diff - docs/img/phases.svg
 	@echo "the guide's program printed what stands in the guide"
+
+# Each sheet of the guide is run on the proved program, and what it prints stands under it.
+guide-sheets: program second
+	@mkdir -p target/sheets
+	rm -f target/sheets/guide*
+	awk '/^```sheet$$/ { file = "target/sheets/guide-" ++number ".txt"; next } /^```$$/ { file = "" } file { print > file }' docs/GUIDE.md
+	set -e; for sheet in target/sheets/guide-*.txt; do \
+		$(SECOND)/sheet assemble "$$sheet" > "$${sheet%.txt}.sheet"; \
+		$(PROGRAM) < "$${sheet%.txt}.sheet"; \
+	done > target/sheets/guide.out
+	$(call blocks,replies) | diff - target/sheets/guide.out
+	@echo "the guide's sheets printed what stands in the guide"
 
 second:
 	cd oracle && cargo build --release --offline --quiet
@@ -73,7 +91,7 @@ linked:
 
 # What the gate runs once all is proved: the comparison on sheets, and what is linked with the library, which needs
 # nothing of its surroundings but memcpy and memset.
-linked-test: lib linked sheets-test
+linked-test: lib linked sheets-test guide-sheets
 	test "$$(nm -u $(LIBRARY) | awk '$$1 == "U" { print $$2 }' | sort | xargs)" = "memcpy memset"
 	$(MAKE) --no-print-directory example guide
 	cd oracle/linked && cargo fmt --check
@@ -85,7 +103,7 @@ sheets-test: program second
 	$(SECOND)/compare $(PROGRAM) examples/sheets seed=$(SEED) keep=target/sheets/failed.sheet
 
 fuzz: lib linked
-	$(LINKED)/fuzz calls=$(CALLS) seed=$(SEED)
+	$(LINKED)/fuzz calls=$(CALLS) seed=$(SEED) $(if $(ROUND),round=$(ROUND))
 
 bench: lib linked second
 	@mkdir -p target/c target/sheets

@@ -1,9 +1,6 @@
 pub mod Good
 pub mod SlotRead
-pub mod Sweep
 pub mod Scan
 pub mod Fill
-pub mod Stored
 pub mod Logged
-pub mod Laid
 pub mod Unique

@@ -85,7 +85,7 @@ logged-laid l x holds =
           rw (reads-laid x, List·getD-append (readsOf x) (replicate (16 - length (readsOf x)) noRead) noRead k below, ← count-read controller l) (holds .inside k below);
     }
 
--- what `slot_at` gives of a good area
+-- the record of a slot of a good area
 pub logged-of : (l : List ℕ) → Good l → (i : ℕ) → i < 8 → (v : SlotRecord) → v ≡ lay (slotAt (stateIn l) i) → Logged l v
 logged-of l good i h v e =
     rw e (logged-laid l (slotAt (stateIn l) i) (reads-hold (stateIn l .cells) (stateIn l .clock) (slotAt (stateIn l) i) (slot-holds l good i h)))

@@ -1,4 +1,4 @@
--- Loops that test one element after the other: what such a loop has left behind is settled, so the search or the test goes on from there.
+-- A loop that looks for the first element that passes: what it has left behind is settled, so the search goes on from there.
 use mathlib.Core.Bool.{Bool, true, false}
 use mathlib.Core.List.{List, _∷_}
 use mathlib.Core.Option.{none, some}
@@ -7,7 +7,7 @@ use Prim.Native.Nat.{ℕ, suc, _+_, _≤_, _<_}
 use native.Mathlib.Numerals.{add-one}
 use lib.ListN.{length, getD, take, drop, drop-of-length-le}
 use lib.Seq.{length-take-le, drop-cons, getD-take}
-use Rattle.slot.specs.Logic.{_and_, all, first}
+use Rattle.slot.specs.Logic.{first}
 
 -- the first of n elements that passes
 module _ {A : Type 0} (f : A → Bool) (d : A) (l : List A) (n k : ℕ) (fits : n ≤ length l) where
@@ -31,20 +31,3 @@ module _ {A : Type 0} (f : A → Bool) (d : A) (l : List A) (n k : ℕ) (fits : 
   pub first-none : n ≤ k → first f (drop k (take n l)) ≡ none
   unfolding first
   first-none h = ap (first f) (drop-of-length-le (take n l) {i = k} (rw count h))
-
--- whether all elements pass
-module _ {A : Type 0} (f : A → Bool) (d : A) (l : List A) (k : ℕ) where
-  -- element k does not pass
-  pub all-failed : k < length l → f (getD l k d) ≡ false → all f (drop k l) ≡ false
-  unfolding all _and_
-  all-failed h e = ap (all f) (drop-cons l k d h) ∙ rw e
-
-  -- it does
-  pub all-passed : k < length l → f (getD l k d) ≡ true → all f (drop k l) ≡ all f (drop (k + 1) l)
-  unfolding all _and_
-  all-passed h e = ap (all f) (drop-cons l k d h) ∙ rw (e, add-one k)
-
-  -- none is left
-  pub all-tested : length l ≤ k → all f (drop k l) ≡ true
-  unfolding all
-  all-tested h = ap (all f) (drop-of-length-le l {i = k} h)

@@ -1,4 +1,3 @@
 pub mod Good
-pub mod Stores
+pub mod InPlace
 pub mod Reload
-pub mod Laid

@@ -3,18 +3,13 @@ use mathlib.Core.List.{List, map}
 use mathlib.Core.Option.{Option, none, some}
 use Prim.Native.Nat.{ℕ}
 use Rattle.slot.specs.declared.ReadEntry.{ReadEntry}
-use Rattle.slot.specs.declared.SlotRecord.{SlotRecord}
 use Rattle.slot.specs.Logs.{readLog, paddedReads}
-use Rattle.rules.specs.State.{State, cellAt, slotAt}
+use Rattle.rules.specs.State.{State, cellAt}
 use Rattle.rules.specs.Cells.{withMark, reloaded, obstacle}
-use Rattle.rules.specs.Layout.{lay}
 use Rattle.area.specs.Good.{stateIn}
+use Rattle.area.specs.InPlace.{recordAt}
 use Rattle.area.specs.declared.Obstacle.{Obstacle}
 use Rattle.area.specs.declared.Obstacle.the-variants.{Held, Clear}
-
--- the record of slot i
-abbrev pub recordAt : List ℕ → ℕ → SlotRecord
-recordAt l i = lay (slotAt (stateIn l) i)
 
 abbrev pub markedReads : List ℕ → ℕ → List ReadEntry
 markedReads l i = paddedReads (map (withMark (stateIn l) i (recordAt l i .start)) (readLog (recordAt l i)))

@@ -1,19 +1,28 @@
-// The lent area, read and written in place: cells, slots and the clock at their offsets, and the lay-out of a fresh area.
+// The lent area, read in place: the cells, the slots and the clock at their offsets, and what the cells say of a slot's read log.
 ghost use mathlib.Core.Path.{_≡_};
 ghost use Prim.Native.Nat.{_+_, _<_, _≤_};
-ghost use lib.ListN.{length, drop, getD};
-ghost use Rattle.wire.specs.Field.{be};
-ghost use Rattle.wire.specs.Part.{splice};
-ghost use Rattle.slot.specs.Fields.{fieldsOf, withoutReads};
-ghost use Rattle.slot.specs.Layout.{readCapacity, writeCapacity, noRead, noWrite};
+ghost use lib.ListN.{length, drop};
+ghost use Rattle.slot.specs.Layout.{readCapacity, writeCapacity};
 ghost use Rattle.slot.specs.Logic.{_or_};
-ghost use Rattle.slot.specs.Logs.{readLog, writeLog, readEntry, writeEntry, someMarked};
-ghost use Rattle.slot.specs.Operations.{readFound, writeFound};
-ghost use Rattle.rules.specs.Model.{controller, cellOffset, slotOffset};
-ghost use Rattle.rules.specs.State.{cellCount, cellAt, slotAt};
 ghost use Rattle.rules.specs.Cells.{heldByOther, newer, withMark, reloaded};
-ghost use Rattle.rules.specs.Layout.{countIn, cellOf, cellBytes, lay};
+ghost use Rattle.rules.specs.Layout.{countIn, cellOf};
 ghost use Rattle.area.specs.Good.{Good, stateIn};
+ghost use Rattle.area.specs.InPlace.{
+  cellStart,
+  slotStart,
+  wordIn,
+  cellsIn,
+  clockIn,
+  cellIn,
+  phaseIn,
+  fieldsIn,
+  writesIn,
+  readIn,
+  writeIn,
+  readFoundIn,
+  writeFoundIn,
+  markedIn,
+};
 ghost use Rattle.area.specs.Reload.{markedReads, reloadedReads, obstacleIn};
 use rules::Cell;
 use slot::ReadEntry;
@@ -21,31 +30,27 @@ use slot::ReadFound;
 use slot::SlotRecord;
 use slot::WriteEntry;
 use slot::WriteFound;
-use slot::in_place;
-
-pub mod fresh;
-pub mod stores;
 
 // In the header: version (1), length (4), number of cells (1), clock. The cells follow it, and the slots the cells.
-const COUNT: usize = 5;
+pub const COUNT: usize = 5;
 
-const CLOCK: usize = 6;
+pub const CLOCK: usize = 6;
 
 // Sizes in bytes, and how many slots there are.
-const STAMP: usize = 8;
+pub const STAMP: usize = 8;
 
-const HEADER: usize = 14;
+pub const HEADER: usize = 14;
 
-const CELL: usize = 14;
+pub const CELL: usize = 14;
 
-const SLOT: usize = 197;
+pub const SLOT: usize = 197;
 
-const SLOTS: usize = 8;
+pub const SLOTS: usize = 8;
 
 // The number of cells.
 pub fn count(s: &[u8]) -> u8
     requires { ⌜ Good (now s) ⌝ }
-    ensures { λ r. ⌜ r ≡ cellCount (stateIn (now (s .entry))) ⌝ }
+    ensures { λ r. ⌜ r ≡ cellsIn (now (s .entry)) ⌝ }
 {
     s[COUNT]
 }
@@ -53,15 +58,15 @@ pub fn count(s: &[u8]) -> u8
 // The last stamp given.
 pub fn clock(s: &[u8]) -> u64
     requires { ⌜ Good (now s) ⌝ }
-    ensures { λ r. ⌜ r ≡ stateIn (now (s .entry)) .clock ⌝ }
+    ensures { λ r. ⌜ r ≡ clockIn (now (s .entry)) ⌝ }
 {
     wire::get(s, CLOCK, STAMP)
 }
 
 // The word at `at`.
-fn word_at(s: &[u8], at: usize) -> u32
+pub fn word_at(s: &[u8], at: usize) -> u32
     requires { ⌜ at + 4 ≤ length (now s) ⌝ }
-    ensures { λ r. ⌜ r ≡ be 4 (drop at (now (s .entry))) ⌝ }
+    ensures { λ r. ⌜ r ≡ wordIn (now (s .entry)) at ⌝ }
 {
     wire::get(s, at, 4) as u32
 }
@@ -80,16 +85,16 @@ fn cell_of(s: &[u8], at: usize) -> Cell
 }
 
 // Where cell `c` starts.
-fn cell_offset(c: u8) -> usize
-    ensures { λ r. ⌜ r ≡ cellOffset controller c ⌝ }
+pub fn cell_offset(c: u8) -> usize
+    ensures { λ r. ⌜ r ≡ cellStart c ⌝ }
 {
     HEADER + CELL * (c as usize)
 }
 
 // Where slot `i` starts, behind the cells.
-fn slot_offset(s: &[u8], i: u8) -> usize
+pub fn slot_offset(s: &[u8], i: u8) -> usize
     requires { ⌜ Good (now s) × (i < 8) ⌝ }
-    ensures { λ r. ⌜ r ≡ slotOffset controller (countIn (now (s .entry))) i ⌝ }
+    ensures { λ r. ⌜ r ≡ slotStart (now (s .entry)) i ⌝ }
 {
     HEADER + CELL * (s[COUNT] as usize) + SLOT * (i as usize)
 }
@@ -97,7 +102,7 @@ fn slot_offset(s: &[u8], i: u8) -> usize
 // Cell `c`.
 pub fn cell_at(s: &[u8], c: u8) -> Cell
     requires { ⌜ Good (now s) × (c < countIn (now s)) ⌝ }
-    ensures { λ r. ⌜ r ≡ cellAt (stateIn (now (s .entry))) c ⌝ }
+    ensures { λ r. ⌜ r ≡ cellIn (now (s .entry)) c ⌝ }
 {
     cell_of(s, cell_offset(c))
 }
@@ -105,7 +110,7 @@ pub fn cell_at(s: &[u8], c: u8) -> Cell
 // The phase of slot `i`, counted from 0.
 pub fn phase_at(s: &[u8], i: u8) -> u8
     requires { ⌜ Good (now s) × (i < 8) ⌝ }
-    ensures { λ r. ⌜ r ≡ lay (slotAt (stateIn (now (s .entry))) i) .phase ⌝ }
+    ensures { λ r. ⌜ r ≡ phaseIn (now (s .entry)) i ⌝ }
 {
     s[slot_offset(s, i)]
 }
@@ -113,57 +118,57 @@ pub fn phase_at(s: &[u8], i: u8) -> u8
 // Slot `i` with empty logs.
 pub fn fields_at(s: &[u8], i: u8) -> SlotRecord
     requires { ⌜ Good (now s) × (i < 8) ⌝ }
-    ensures { λ r. ⌜ r ≡ fieldsOf (lay (slotAt (stateIn (now (s .entry))) i)) ⌝ }
+    ensures { λ r. ⌜ r ≡ fieldsIn (now (s .entry)) i ⌝ }
 {
-    in_place::fields(s, slot_offset(s, i), STAMP)
+    packed::fields(s, slot_offset(s, i), STAMP)
 }
 
 // Slot `i` with its write log alone.
 pub fn writes_at(s: &[u8], i: u8) -> SlotRecord
     requires { ⌜ Good (now s) × (i < 8) ⌝ }
-    ensures { λ r. ⌜ r ≡ withoutReads (lay (slotAt (stateIn (now (s .entry))) i)) ⌝ }
+    ensures { λ r. ⌜ r ≡ writesIn (now (s .entry)) i ⌝ }
 {
-    in_place::with_writes(s, slot_offset(s, i), STAMP)
+    packed::with_writes(s, slot_offset(s, i), STAMP)
 }
 
 // Read entry `k` of slot `i`.
 fn read_at(s: &[u8], i: u8, k: usize) -> ReadEntry
     requires { ⌜ Good (now s) × (i < 8) × (k < readCapacity) ⌝ }
-    ensures { λ r. ⌜ r ≡ getD (lay (slotAt (stateIn (now (s .entry))) i) .reads) k noRead ⌝ }
+    ensures { λ r. ⌜ r ≡ readIn (now (s .entry)) i k ⌝ }
 {
-    in_place::read_at(s, slot_offset(s, i), STAMP, k)
+    packed::read_at(s, slot_offset(s, i), STAMP, k)
 }
 
 // Write entry `k` of slot `i`.
 pub fn write_at(s: &[u8], i: u8, k: u8) -> WriteEntry
     requires { ⌜ Good (now s) × (i < 8) × (k < writeCapacity) ⌝ }
-    ensures { λ r. ⌜ r ≡ getD (lay (slotAt (stateIn (now (s .entry))) i) .writes) k noWrite ⌝ }
+    ensures { λ r. ⌜ r ≡ writeIn (now (s .entry)) i k ⌝ }
 {
-    in_place::write_at(s, slot_offset(s, i), STAMP, k as usize)
+    packed::write_at(s, slot_offset(s, i), STAMP, k as usize)
 }
 
 // The read entry of a cell in slot `i`.
 pub fn find_read(s: &[u8], i: u8, cell: u8) -> ReadFound
     requires { ⌜ Good (now s) × (i < 8) ⌝ }
-    ensures { λ r. ⌜ r ≡ readFound (readEntry (readLog (lay (slotAt (stateIn (now (s .entry))) i))) cell) ⌝ }
+    ensures { λ r. ⌜ r ≡ readFoundIn (now (s .entry)) i cell ⌝ }
 {
-    in_place::find_read(s, slot_offset(s, i), STAMP, cell)
+    packed::find_read(s, slot_offset(s, i), STAMP, cell)
 }
 
 // The write entry of a cell in slot `i`.
 pub fn find_write(s: &[u8], i: u8, cell: u8) -> WriteFound
     requires { ⌜ Good (now s) × (i < 8) ⌝ }
-    ensures { λ r. ⌜ r ≡ writeFound (writeEntry (writeLog (lay (slotAt (stateIn (now (s .entry))) i))) cell) ⌝ }
+    ensures { λ r. ⌜ r ≡ writeFoundIn (now (s .entry)) i cell ⌝ }
 {
-    in_place::find_write(s, slot_offset(s, i), STAMP, cell)
+    packed::find_write(s, slot_offset(s, i), STAMP, cell)
 }
 
 // Whether an entry of slot `i`'s read log is marked.
 pub fn some_marked(s: &[u8], i: u8) -> bool
     requires { ⌜ Good (now s) × (i < 8) ⌝ }
-    ensures { λ r. ⌜ r ≡ someMarked (readLog (lay (slotAt (stateIn (now (s .entry))) i))) ⌝ }
+    ensures { λ r. ⌜ r ≡ markedIn (now (s .entry)) i ⌝ }
 {
-    in_place::some_marked(s, slot_offset(s, i), STAMP)
+    packed::some_marked(s, slot_offset(s, i), STAMP)
 }
 
 // What stands in the way of a reload.
@@ -221,7 +226,7 @@ fn reloaded_entry(s: &[u8], e: ReadEntry) -> ReadEntry
 }
 
 // The read log of slot `i` with its marks.
-pub fn marked_reads(s: &[u8], i: u8) -> [ReadEntry; 16]
+pub fn marked_reads(s: &[u8], i: u8) -> [ReadEntry; SlotRecord::READS]
     requires { ⌜ Good (now s) × (i < 8) ⌝ }
     ensures { λ r. ⌜ r ≡ markedReads (now (s .entry)) i ⌝ }
 {
@@ -238,7 +243,7 @@ pub fn marked_reads(s: &[u8], i: u8) -> [ReadEntry; 16]
 }
 
 // The read log of slot `i` with the cells' present words.
-pub fn reloaded_reads(s: &[u8], i: u8) -> [ReadEntry; 16]
+pub fn reloaded_reads(s: &[u8], i: u8) -> [ReadEntry; SlotRecord::READS]
     requires { ⌜ Good (now s) × (i < 8) ⌝ }
     ensures { λ r. ⌜ r ≡ reloadedReads (now (s .entry)) i ⌝ }
 {
@@ -275,15 +280,4 @@ pub fn first_obstacle(s: &[u8], i: u8) -> Obstacle
         }
         k += 1;
     }
-}
-
-// Puts a cell at `at`.
-fn put_cell(s: &mut [u8], at: usize, x: Cell)
-    requires { ⌜ at + 14 ≤ length (now s) ⌝ }
-    ensures { λ r. ⌜ now (s .exit) ≡ splice (now (s .entry)) at (cellBytes 8 x) ⌝ }
-{
-    s[at] = x.kind;
-    s[at + 1] = x.holder;
-    wire::put(s, at + 2, 4, x.word as u64);
-    wire::put(s, at + 6, STAMP, x.stamp);
 }

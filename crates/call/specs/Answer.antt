@@ -25,7 +25,7 @@ replyCode (ReloadHeld cell holder) = 11
 replyCode LastStamp = 12
 replyCode Aborted = 13
 
--- "kind 0 unless stated": a truth value has kind 1, and a value its own
+-- "kind 0 and word 0 unless stated": a truth value has kind 1, and a value its own
 abbrev pub replyKind : Reply → ℕ
 replyKind Done = 0
 replyKind (Verdict b) = 1

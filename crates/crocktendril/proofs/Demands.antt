@@ -18,8 +18,7 @@ use Rattle.rules.specs.Outcome.{Outcome, replyOf}
 use Rattle.rules.specs.Step.{Call, step}
 use Rattle.rules.specs.Layout.{pack, stateOf}
 use Rattle.rules.specs.AreaRight.{wellFormed}
-use Rattle.rules.specs.Area as area
-use Rattle.rules.specs.Area.{Answered, answered, stepOnBytes, atRest, describedCells, fresh, lengthsFit, layOut}
+use Rattle.rules.specs.Area.{Laying, Answered, answered, stepOnBytes, atRest, describedCells, fresh, lengthsFit, layOut}
 use Rattle.rules.proofs.Controller.{controller-fits}
 use Rattle.rules.proofs.RoundTrip.{round-trip}
 use Rattle.rules.proofs.LaidOut.{laid-right, lays-out}
@@ -29,11 +28,11 @@ use Rattle.history.specs.AreaHistory.{areaHistory}
 use Rattle.history.proofs.Keeps.{keeps}
 use Rattle.history.proofs.Keeps.OnBytes.{answered-reply, stepped-packed}
 use Rattle.history.proofs.Histories.{histories}
-use Rattle.crocktendril.specs.Contract.{Stepped, LaidOut}
+use Rattle.crocktendril.specs.Contract.{Stepped}
 use Rattle.crocktendril.specs.Demands.{Demand1, Demand2, Made, inTurn, lastLeft, happened, Demand3AtC}
 use Rattle.crocktendril.proofs.Words.{step-word}
 
-abbrev laid : ℕ → List ℕ → area.LaidOut
+abbrev laid : ℕ → List ℕ → Laying
 laid code bytes = record { code = code; bytes = bytes }
 
 -- the reply on bytes has a word of 32 bits
@@ -108,7 +107,7 @@ same-answers l (m ∷ made) turns =
     let here = turns .0 in
     rw (here .answer, same-answers (m .left) made (turns .1), here .bytes)
 
-same-end : (l : List ℕ) (made : List Made) → inTurn l made → lastLeft l made ≡ bytesAfter controller l (map (λ (m : Made). m .call) made)
+pub same-end : (l : List ℕ) (made : List Made) → inTurn l made → lastLeft l made ≡ bytesAfter controller l (map (λ (m : Made). m .call) made)
 unfolding inTurn lastLeft bytesAfter
 same-end l [] turns = refl
 same-end l (m ∷ made) turns = same-end (m .left) made (turns .1) ∙ ap (λ (b : List ℕ). bytesAfter controller b (map (λ (x : Made). x .call) made)) (turns .0 .bytes)

@@ -1,4 +1,4 @@
--- The three demands of the two functions, as statements about what their contracts allow.
+-- The three demands of the two functions, as statements about what their contracts allow. In quotation marks: the demands' own words.
 use mathlib.Core.Bool.{true}
 use mathlib.Core.List.{List, [], _∷_, map}
 use mathlib.Core.Path.{_≡_}
@@ -15,25 +15,29 @@ use Rattle.rules.specs.Area.{stepOnBytes, atRest}
 use Rattle.rules.specs.RoundTrip.{RoundTrip}
 use Rattle.history.specs.History.{Event, Demand3}
 use Rattle.history.specs.AreaHistory.{areaHistory}
-use Rattle.crocktendril.specs.Contract.{Stepped, LaidOut}
+use Rattle.fresh.specs.LaidOut.{LaidOut}
+use Rattle.crocktendril.specs.Contract.{Stepped}
 
--- "Arbitrary area contents and arguments get a definite reply."
+-- Demand 1. Nothing is asked of `l`, `ds` and `call`, here or in the contracts: "No caller has to check first."
 pub record Demand1 : Type 0 where
+  -- "An area lent with arbitrary contents, and arbitrary arguments, get a definite reply."
   pub stepDefinite : (l : List ℕ) (call : Call) (r₁ r₂ : ℕ) (l₁ l₂ : List ℕ) → Stepped l call r₁ l₁ → Stepped l call r₂ l₂ → (r₁ ≡ r₂) × (l₁ ≡ l₂)
   pub layOutDefinite : (l ds : List ℕ) (r₁ r₂ : ℕ) (l₁ l₂ : List ℕ) → LaidOut l ds r₁ l₁ → LaidOut l ds r₂ l₂ → (r₁ ≡ r₂) × (l₁ ≡ l₂)
   -- the code, the kind and the word come back from the number
   pub code : (l : List ℕ) (call : Call) (r : ℕ) (l′ : List ℕ) → Stepped l call r l′ → r / 2 ^ 40 ≡ replyCode (stepOnBytes controller l call .reply)
   pub kind : (l : List ℕ) (call : Call) (r : ℕ) (l′ : List ℕ) → Stepped l call r l′ → r / 2 ^ 32 % 256 ≡ replyKind (stepOnBytes controller l call .reply)
   pub word : (l : List ℕ) (call : Call) (r : ℕ) (l′ : List ℕ) → Stepped l call r l′ → r % 2 ^ 32 ≡ replyWord (stepOnBytes controller l call .reply)
-  -- "A refused call gives its listed code with kind and word zero and changes no byte."
+  -- "A refused call gives its listed code with kind and word zero, and changes no byte of the area."
   pub refusal : (l : List ℕ) (call : Call) (r : ℕ) (l′ : List ℕ) → Stepped l call r l′ → 1 ≤ r / 2 ^ 40 → r / 2 ^ 40 ≤ 12
       → (r / 2 ^ 32 % 256 ≡ 0) × (r % 2 ^ 32 ≡ 0) × (l′ ≡ l)
   pub layOutRefusal : (l ds : List ℕ) (r : ℕ) (l′ : List ℕ) → LaidOut l ds r l′ → 1 ≤ r → l′ ≡ l
 
--- "Every step does exactly what document 01 says. Packing a well-formed state and unpacking it lose nothing either way."
+-- Demand 2
 pub record Demand2 : Type 0 where
+  -- "Every step does exactly what the Twilight rules of the dissertation, source document 000, say as document 01 fixes them."
   pub stepExact : (S : State) (call : Call) (r : ℕ) (l′ : List ℕ) → stateRight controller S ≡ true → Stepped (pack controller S) call r l′
       → (r ≡ replyNumber (replyOf (step controller S call))) × (l′ ≡ pack controller (after S (step controller S call)))
+  -- "Packing a well-formed state into its area and unpacking it lose nothing either way."
   pub roundTrip : RoundTrip controller
 
 -- One call of `crocktendril_step`: what was asked, what was answered, and the bytes that it left.
@@ -55,7 +59,7 @@ lastLeft l (m ∷ made) = lastLeft (m .left) made
 abbrev pub happened : List ℕ → List Made → List Event
 happened l made = areaHistory controller l (map (λ (m : Made). m .call) made)
 
--- "From an area at rest and any list of calls, the cells, the reads and the commits agree with the replay of the committed write logs in order of commit stamp."
+-- Demand 3. "Start from an area at rest and take any list of calls from any slots." What it says of them, sentence by sentence, are the fields of `Demand3`.
 pub record Demand3AtC : Type 0 where
   -- the history's replies are what C was answered
   pub answers : (l : List ℕ) (made : List Made) → inTurn l made

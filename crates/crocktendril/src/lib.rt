@@ -1,8 +1,8 @@
 // The two functions for C, thin: the lent area is checked, the call decoded, and the step taken in place. Nothing is asked of the caller but that the
 // slices are what they say.
 ghost use Rattle.rules.specs.Run.{call};
-ghost use Rattle.crocktendril.specs.Contract.{Stepped, LaidOut};
-use area::fresh;
+ghost use Rattle.fresh.specs.LaidOut.{LaidOut};
+ghost use Rattle.crocktendril.specs.Contract.{Stepped};
 use call::Reply;
 
 // Makes one step. Answers code × 2^40 + kind × 2^32 + word.

@@ -1,8 +1,8 @@
--- One eliminator for each test that a step's row is made of: what holds of a refusal, and of how the step goes on, holds of the row.
+-- The eliminators of a row's tests where all refusals are alike: what holds of every refusal, and of how the step goes on, holds of the row.
 use mathlib.Core.Bool.{Bool, true, false, cond}
 use mathlib.Core.List.{List}
 use mathlib.Core.Option.{Option, none, some}
-use mathlib.Core.Path.{_≡_, refl}
+use mathlib.Core.Path.{_≡_}
 use Prim.Native.Nat.{ℕ}
 use lib.Dec.{T, leb}
 use Rattle.call.specs.declared.Reply.{Reply}
@@ -11,6 +11,7 @@ use Rattle.call.specs.Answer.{replyCode}
 use Rattle.slot.specs.declared.ReadEntry.{ReadEntry}
 use Rattle.slot.specs.declared.WriteEntry.{WriteEntry}
 use Rattle.rules.specs.State.{Slot, idle, opened, locking, twilight, publishing}
+use Rattle.rules.proofs.Cases as rules
 use Rattle.rules.specs.Outcome.{Outcome, refused, whenIdle, whenOpen, whenLocking, whenTwilight, whenPublishing, whenUncommitted, refuseIf, inLog, foundOr}
 
 -- not committed yet: open, locking or twilight
@@ -25,63 +26,40 @@ Refusal r = T (leb 2 (replyCode r)) × T (leb (replyCode r) 12)
 
 module _ (P : Outcome → Type 0) (refusal : (r : Reply) → Refusal r → P (refused r)) where
   pub cond-case : (t : Bool) (a b : Outcome) → (t ≡ true → P a) → (t ≡ false → P b) → P (cond t a b)
-  cond-case true a b f g = f refl
-  cond-case false a b f g = g refl
+  cond-case = rules.cond-case P
 
   pub refuse-case : (t : Bool) (r : Reply) → Refusal r → (o : Outcome) → (t ≡ false → P o) → P (refuseIf t r o)
   refuse-case t r k o f = cond-case t (refused r) o (λ e. refusal r k) f
 
   pub log-case : {A : Type 0} (e : Option A) (o : A → Outcome) → ((x : A) → e ≡ some x → P (o x)) → P (inLog e o)
-  log-case none o f = refusal NotInLog (tt, tt)
-  log-case (some x) o f = f x refl
+  log-case e o f = rules.log-case P e o (λ p. refusal NotInLog (tt, tt)) f
 
   pub found-case : {A : Type 0} (e : Option A) (o : A → Outcome) (other : Outcome) → ((x : A) → e ≡ some x → P (o x)) → (e ≡ none → P other) → P (foundOr e o other)
-  found-case none o other f g = g refl
-  found-case (some x) o other f g = f x refl
+  found-case = rules.found-case P
 
   pub idle-case : (x : Slot) (o : Outcome) → (x ≡ idle → P o) → P (whenIdle x o)
-  idle-case idle o f = f refl
-  idle-case (opened start reads writes) o f = refusal NotAllowed (tt, tt)
-  idle-case (locking taken start reads writes) o f = refusal NotAllowed (tt, tt)
-  idle-case (twilight ignoring start commit reads writes) o f = refusal NotAllowed (tt, tt)
-  idle-case (publishing ignoring taken start commit reads writes) o f = refusal NotAllowed (tt, tt)
+  idle-case x o f = rules.idle-case P x o (λ p. refusal NotAllowed (tt, tt)) f
 
   pub open-case : (x : Slot) (o : ℕ → List ReadEntry → List WriteEntry → Outcome)
       → ((start : ℕ) (reads : List ReadEntry) (writes : List WriteEntry) → x ≡ opened start reads writes → P (o start reads writes)) → P (whenOpen x o)
-  open-case idle o f = refusal NotAllowed (tt, tt)
-  open-case (opened start reads writes) o f = f start reads writes refl
-  open-case (locking taken start reads writes) o f = refusal NotAllowed (tt, tt)
-  open-case (twilight ignoring start commit reads writes) o f = refusal NotAllowed (tt, tt)
-  open-case (publishing ignoring taken start commit reads writes) o f = refusal NotAllowed (tt, tt)
+  open-case x o f = rules.open-case P x o (λ p. refusal NotAllowed (tt, tt)) f
 
   pub locking-case : (x : Slot) (o : ℕ → ℕ → List ReadEntry → List WriteEntry → Outcome)
       → ((taken start : ℕ) (reads : List ReadEntry) (writes : List WriteEntry) → x ≡ locking taken start reads writes → P (o taken start reads writes))
       → P (whenLocking x o)
-  locking-case idle o f = refusal NotAllowed (tt, tt)
-  locking-case (opened start reads writes) o f = refusal NotAllowed (tt, tt)
-  locking-case (locking taken start reads writes) o f = f taken start reads writes refl
-  locking-case (twilight ignoring start commit reads writes) o f = refusal NotAllowed (tt, tt)
-  locking-case (publishing ignoring taken start commit reads writes) o f = refusal NotAllowed (tt, tt)
+  locking-case x o f = rules.locking-case P x o (λ p. refusal NotAllowed (tt, tt)) f
 
   pub twilight-case : (x : Slot) (o : Bool → ℕ → ℕ → List ReadEntry → List WriteEntry → Outcome)
       → ((ignoring : Bool) (start commit : ℕ) (reads : List ReadEntry) (writes : List WriteEntry) → x ≡ twilight ignoring start commit reads writes
       → P (o ignoring start commit reads writes))
       → P (whenTwilight x o)
-  twilight-case idle o f = refusal NotAllowed (tt, tt)
-  twilight-case (opened start reads writes) o f = refusal NotAllowed (tt, tt)
-  twilight-case (locking taken start reads writes) o f = refusal NotAllowed (tt, tt)
-  twilight-case (twilight ignoring start commit reads writes) o f = f ignoring start commit reads writes refl
-  twilight-case (publishing ignoring taken start commit reads writes) o f = refusal NotAllowed (tt, tt)
+  twilight-case x o f = rules.twilight-case P x o (λ p. refusal NotAllowed (tt, tt)) f
 
   pub publishing-case : (x : Slot) (o : Bool → ℕ → ℕ → ℕ → List ReadEntry → List WriteEntry → Outcome)
       → ((ignoring : Bool) (taken start commit : ℕ) (reads : List ReadEntry) (writes : List WriteEntry) → x ≡ publishing ignoring taken start commit reads writes
       → P (o ignoring taken start commit reads writes))
       → P (whenPublishing x o)
-  publishing-case idle o f = refusal NotAllowed (tt, tt)
-  publishing-case (opened start reads writes) o f = refusal NotAllowed (tt, tt)
-  publishing-case (locking taken start reads writes) o f = refusal NotAllowed (tt, tt)
-  publishing-case (twilight ignoring start commit reads writes) o f = refusal NotAllowed (tt, tt)
-  publishing-case (publishing ignoring taken start commit reads writes) o f = f ignoring taken start commit reads writes refl
+  publishing-case x o f = rules.publishing-case P x o (λ p. refusal NotAllowed (tt, tt)) f
 
   pub uncommitted-case : (x : Slot) (o : Outcome) → (Uncommitted x → P o) → P (whenUncommitted x o)
   uncommitted-case idle o f = refusal NotAllowed (tt, tt)

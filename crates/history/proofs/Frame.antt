@@ -20,7 +20,7 @@ use Rattle.slot.specs.Logs.{writesCell}
 use Rattle.rules.specs.StateRight.{holds}
 use Rattle.rules.specs.Outcome.{Outcome, refused, accepted, replyOf, after}
 use Rattle.rules.specs.Step.{row, step}
-use Rattle.history.specs.Frame.{namesCell, callNames, Alike, Framed, Frame}
+use Rattle.history.specs.Frame.{namesCell, callNames, Alike, StepFrame, Frame}
 use Rattle.history.proofs.Move.{Move}
 use Rattle.history.proofs.Right.{Right, right-of}
 use Rattle.history.proofs.Keeps.Lists.{below-or-not}
@@ -78,7 +78,7 @@ module _ {S S′ : State} {i : ℕ} where
 -- what the effect of a step, or of none, leaves alone
 module _ (M : Model) (i : ℕ) (names : ℕ → Bool) (does : State → Outcome) where
   framed : ((S : State) (P : Outcome → Type 0) → ((r : Reply) → P (refused r)) → ((s : Step) (r : Reply) (T : State) → Move M S i s r T → P (accepted r T)) → P (does S))
-      → ((S S′ : State) → Alike S S′ i names → Matches S S′ i (does S) (does S′)) → Framed M i names does
+      → ((S S′ : State) → Alike S S′ i names → Matches S S′ i (does S) (does S′)) → StepFrame M i names does
   framed moves match =
       record {
         otherSlots = λ S j n. moves S (λ o. slotAt (after S o) j ≡ slotAt S j) (λ r. refl) (λ s r T m. effect M S i m .others j n);

@@ -56,7 +56,7 @@ pub record Alike (S S′ : State) (i : ℕ) (names : ℕ → Bool) : Type 0 wher
   pub cells : (c : ℕ) → concerns names (slotAt S i) c ≡ true → cellAt S c ≡ cellAt S′ c
 
 -- A step of slot i: what it comes to, from each state.
-pub record Framed (M : Model) (i : ℕ) (names : ℕ → Bool) (does : State → Outcome) : Type 0 where
+pub record StepFrame (M : Model) (i : ℕ) (names : ℕ → Bool) (does : State → Outcome) : Type 0 where
   -- It changes no other slot.
   pub otherSlots : (S : State) (j : ℕ) → (j ≡ i → ⊥) → slotAt (after S (does S)) j ≡ slotAt S j
   -- Of the cells it changes only those in its write log.
@@ -70,8 +70,8 @@ pub record Framed (M : Model) (i : ℕ) (names : ℕ → Bool) (does : State →
 
 pub record Frame (M : Model) : Type 0 where
   -- a step of slot i, by its row; and a call, with any numbers
-  pub steps : (i : ℕ) (s : Step) → Framed M i (namesCell s) (λ S. row M S i s)
-  pub calls : (a : Call) → Framed M (pred (a .slot)) (callNames a) (λ S. step M S a)
+  pub steps : (i : ℕ) (s : Step) → StepFrame M i (namesCell s) (λ S. row M S i s)
+  pub calls : (a : Call) → StepFrame M (pred (a .slot)) (callNames a) (λ S. step M S a)
   -- Apart from enter (6) and reload (10) it doesn't change the clock.
   pub stepClock : (S : State) (i : ℕ) (s : Step) → (s ≡ Enter → ⊥) → (s ≡ Reload → ⊥) → after S (row M S i s) .clock ≡ S .clock
   pub callClock : (S : State) (a : Call) → (a .step ≡ 6 → ⊥) → (a .step ≡ 10 → ⊥) → after S (step M S a) .clock ≡ S .clock

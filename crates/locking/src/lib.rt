@@ -5,7 +5,6 @@ ghost use Rattle.rules.specs.Model.{controller};
 ghost use Rattle.rules.specs.Steps as rule;
 ghost use Rattle.area.specs.Good.{Good, stateIn};
 ghost use Rattle.ways.specs.Did.{Did};
-use area::stores;
 use call::Reply;
 use rules::Cell;
 

@@ -8,7 +8,6 @@ ghost use Rattle.rules.specs.Steps as rule;
 ghost use Rattle.area.specs.Good.{Good, stateIn};
 ghost use Rattle.ways.specs.Did.{Did};
 ghost use Rattle.ways.specs.Asked.{sharedRead};
-use area::stores;
 use call::Reply;
 use rules::Cell;
 use slot::ReadEntry;

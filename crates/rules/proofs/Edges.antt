@@ -1,13 +1,13 @@
--- E1 to E12 hold: each by computation.
+-- E1 to E12 hold of states: each by computation.
 use mathlib.Core.Path.{refl}
-use Rattle.rules.specs.Edges.{Edges}
+use Rattle.rules.specs.Edges.{EdgesOnStates}
 use Rattle.wire.specs.Field.{be}
 use Rattle.slot.specs.Logic.{all}
 use Rattle.rules.specs.LogsRight.{cellCountRight}
 use Rattle.rules.specs.Area.{describedCell, describedCells, lengthsFit, layOut}
 use Rattle.rules.proofs.Open.{computed}
 
-pub edges : Edges
+pub edges : EdgesOnStates
 unfolding computed be all cellCountRight describedCell describedCells lengthsFit layOut
 edges =
     record {
@@ -23,6 +23,7 @@ edges =
       E8 = refl;
       E9 = refl;
       E9-clock = refl;
+      E9-before = refl;
       E9-kept = refl;
       E10 = refl;
       E10-after = refl;

@@ -16,7 +16,7 @@ use Rattle.rules.specs.State.{Slot, idle, commitOf, noCell}
 use Rattle.rules.specs.LogsRight.{cellRight, stampsApart, holdersRight, cellCountRight}
 use Rattle.rules.specs.StateRight.{slotRight, holds, shapeRight, stateRightButHolders, stateHoldersRight, stateRight, isIdle}
 use Rattle.rules.specs.Layout.{pack}
-use Rattle.rules.specs.Area.{atRest, descriptionSize, describedCount, describedCell, describedCells, fresh, lengthsFit, LaidOut, layOut}
+use Rattle.rules.specs.Area.{atRest, descriptionSize, describedCount, describedCell, describedCells, fresh, lengthsFit, Laying, layOut}
 use Rattle.rules.specs.RoundTrip.{LaysOut}
 use Rattle.rules.specs.declared.Cell.{Cell}
 use Rattle.slot.proofs.Logic.{and-intro, and-left, and-right, every-of, all-at, all-of}
@@ -75,7 +75,7 @@ module _ (M : Model) (cells : List Cell) (count : cellCountRight M (length cells
       fresh-holders
 
 -- what an accepted lay-out has tested
-accepted : (fit legal : Bool) (x y z : LaidOut) → y .code ≡ 6 → z .code ≡ 1 → cond fit (cond legal x y) z .code ≡ 0
+accepted : (fit legal : Bool) (x y z : Laying) → y .code ≡ 6 → z .code ≡ 1 → cond fit (cond legal x y) z .code ≡ 0
     → (fit ≡ true) × (legal ≡ true)
 accepted true true x y z six one e = (refl, refl)
 accepted true false x y z six one e = absurd (omega arith)

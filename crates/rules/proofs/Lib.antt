@@ -1,6 +1,9 @@
 pub mod Open
 pub mod Edges
 pub mod SheetS
+pub mod Blocked
+pub mod Cases
+pub mod Codes
 pub mod LayView
 pub mod Zeros
 pub mod SlotPlace

@@ -88,15 +88,19 @@ module _ (M : Model) (S : State) where
   from-clock : drop 6 (pack M S) ≡ rest-of-header
   from-clock = sym (drop-drop 1 5 (pack M S)) ∙ ap (drop 1) from-count
 
+  -- the clock is read back, whatever else fits
+  pub clock-held : S .clock < 256 ^ M .stampBytes → clockIn M (pack M S) ≡ S .clock
+  unfolding rest-of-header
+  clock-held fits =
+      ap (be (M .stampBytes)) (from-clock ∙ append-assoc (toBe (M .stampBytes) (S .clock)) cellPart slotPart)
+      ∙ be-toBe (M .stampBytes) (S .clock) (cellPart ++ slotPart) fits
+
   module _ (sized : Sized M S) where
     pub length-packed : lengthIn (pack M S) ≡ areaLength M (cellCount S)
     length-packed = ap (be 4) from-length ∙ be-toBe 4 (areaLength M (cellCount S)) (cellCount S ∷ rest-of-header) (sized .lengthFits)
 
     pub clock-packed : clockIn M (pack M S) ≡ S .clock
-    unfolding rest-of-header
-    clock-packed =
-        ap (be (M .stampBytes)) (from-clock ∙ append-assoc (toBe (M .stampBytes) (S .clock)) cellPart slotPart)
-        ∙ be-toBe (M .stampBytes) (S .clock) (cellPart ++ slotPart) (sized .clockFits)
+    clock-packed = clock-held (sized .clockFits)
 
     -- the cells are read back
     pub cells-packed : cellsIn M (pack M S) ≡ S .cells

@@ -70,12 +70,12 @@ lengthsFit M a ds =
     and eqb (length a) (areaLength M (describedCount ds))
 
 -- the lay-out's plain code, and the area after it
-pub record LaidOut : Type 0 where
+pub record Laying : Type 0 where
   pub code : ℕ
   pub bytes : List ℕ
 
 -- 1 for a wrong length, then 6 for an illegal kind or word, else 0; a refusal writes nothing
-unfoldable pub layOut : Model → List ℕ → List ℕ → LaidOut
+unfoldable pub layOut : Model → List ℕ → List ℕ → Laying
 layOut M a ds =
     cond (lengthsFit M a ds)
     (cond (all (λ (x : Cell). legalWord (x .kind) (x .word)) (describedCells ds))

@@ -10,6 +10,10 @@ pub mod Layout
 pub mod AreaRight
 pub mod Area
 pub mod RoundTrip
+pub mod Allowed
+pub mod Codes
+pub mod LowestCode
 pub mod Run
 pub mod Edges
 pub mod SheetS
+pub mod Blocked

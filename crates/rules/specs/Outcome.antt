@@ -1,5 +1,5 @@
--- What a step comes to: refused, which changes nothing, or accepted, with the state after it. And the tests that a step's row is made of: each is "if so, go on,
--- else refuse", so the order of codes is the order of the tests in the text.
+-- What a step comes to: refused, which changes nothing, or accepted, with the state after it. And the tests that a step's row is made of: each goes on if it
+-- holds and refuses if not, so the order of codes is the order of the tests in the text.
 use mathlib.Core.Bool.{Bool, cond, not}
 use mathlib.Core.List.{List}
 use mathlib.Core.Option.{Option, none, some}

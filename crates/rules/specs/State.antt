@@ -61,6 +61,14 @@ startOf (locking taken start reads writes) = start
 startOf (twilight ignoring start commit reads writes) = start
 startOf (publishing ignoring taken start commit reads writes) = start
 
+-- "Taken" is locks taken in phase 2, cells published in phase 4, else 0.
+abbrev pub takenOf : Slot → ℕ
+takenOf idle = 0
+takenOf (opened start reads writes) = 0
+takenOf (locking taken start reads writes) = taken
+takenOf (twilight ignoring start commit reads writes) = 0
+takenOf (publishing ignoring taken start commit reads writes) = taken
+
 -- The commit stamp is 0 in phases 0 to 2.
 abbrev pub commitOf : Slot → ℕ
 commitOf idle = 0
@@ -76,6 +84,28 @@ ignoringOf (opened start reads writes) = false
 ignoringOf (locking taken start reads writes) = false
 ignoringOf (twilight ignoring start commit reads writes) = ignoring
 ignoringOf (publishing ignoring taken start commit reads writes) = ignoring
+
+-- the phases
+abbrev pub isOpen : Slot → Bool
+isOpen idle = false
+isOpen (opened start reads writes) = true
+isOpen (locking taken start reads writes) = false
+isOpen (twilight ignoring start commit reads writes) = false
+isOpen (publishing ignoring taken start commit reads writes) = false
+
+abbrev pub isLocking : Slot → Bool
+isLocking idle = false
+isLocking (opened start reads writes) = false
+isLocking (locking taken start reads writes) = true
+isLocking (twilight ignoring start commit reads writes) = false
+isLocking (publishing ignoring taken start commit reads writes) = false
+
+abbrev pub isTwilight : Slot → Bool
+isTwilight idle = false
+isTwilight (opened start reads writes) = false
+isTwilight (locking taken start reads writes) = false
+isTwilight (twilight ignoring start commit reads writes) = true
+isTwilight (publishing ignoring taken start commit reads writes) = false
 
 abbrev pub isPublishing : Slot → Bool
 isPublishing idle = false

@@ -11,8 +11,8 @@ use Rattle.slot.proofs.Entry.{first-byte}
 use Rattle.rules.specs.State.{noCell}
 use Rattle.rules.specs.Layout.{cellOf}
 use Rattle.rules.specs.Area.{describedCount, describedCell, describedCells}
-use Rattle.area.specs.Laid.{legalCell}
-use Rattle.area.proofs.Laid.{described-at}
+use Rattle.fresh.specs.Parts.{legalCell}
+use Rattle.fresh.proofs.Parts.{described-at}
 use Rattle.line.specs.Line.{cellLine}
 use Rattle.sheet.specs.Output.{lineOfCell, lineInArea}
 

@@ -1,7 +1,4 @@
 pub mod Entry
-pub mod Offset
-pub mod Parts
-pub mod Zero
 pub mod RoundTrip
 pub mod Unique
 pub mod Logic

@@ -73,16 +73,3 @@ module _ {A : Type 0} (f : A → Bool) (d : A) (array : List A) (n i : ℕ) (fro
   pub search-end : length (take n array) ≤ i → first f (take n array) ≡ none
   unfolding first
   search-end h = from ∙ rw (drop-of-length-le (take n array) h)
-
--- a search through the array of a packed slot, whose count and entries are read where they stand
-module _ {A : Type 0} (f : A → Bool) (d : A) (array : List A) (n count i : ℕ) (counted : count ≡ n) (sized : length array ≡ 16)
-    (from : first f (take count array) ≡ first f (drop i (take count array))) where
-  pub entry-next : {e : A} → i < count → i < 16 → e ≡ getD array i d → f e ≡ false → first f (take count array) ≡ first f (drop (i + 1) (take count array))
-  entry-next h k there q = search-next f d array count i from h (omega arith) (rw (← there) q)
-
-  pub entry-found : {e : A} → i < count → i < 16 → e ≡ getD array i d → f e ≡ true → some e ≡ first f (take n array)
-  entry-found h k there q =
-      rw (← counted, there) (sym (search-found f d array count i from h (omega arith) (rw (← there) q)))
-
-  pub entry-none : length (take count array) ≤ i → none ≡ first f (take n array)
-  entry-none h = rw (← counted) (sym (search-end f d array count i from h))

@@ -3,15 +3,11 @@ use mathlib.Core.Bool.{Bool}
 use mathlib.Core.Path.{_≡_}
 use mathlib.Core.List.{List}
 use Prim.Native.Nat.{ℕ}
-use lib.ListN.{drop, getD}
-use Rattle.wire.specs.Part.{splice}
 use Rattle.wire.proofs.Unique.{unique}
-use Rattle.slot.specs.Layout.{noRead, noWrite, empty, slotOf, slotBytes}
-use Rattle.slot.specs.Fields.{fieldsOf, withoutReads}
-use Rattle.slot.specs.Logs.{readLog, writeLog, readEntry, writeEntry, someMarked}
+use Rattle.slot.specs.Layout.{empty}
+use Rattle.slot.specs.Logs.{hasMark}
 use Rattle.slot.specs.Operations.{
-  readFound,
-  writeFound,
+  idled,
   begun,
   joined,
   written,
@@ -25,15 +21,16 @@ use Rattle.slot.specs.Operations.{
 }
 use Rattle.slot.specs.declared.ReadEntry.{ReadEntry}
 use Rattle.slot.specs.declared.WriteEntry.{WriteEntry}
-use Rattle.slot.specs.declared.ReadFound.{ReadFound}
-use Rattle.slot.specs.declared.WriteFound.{WriteFound}
 use Rattle.slot.specs.declared.SlotRecord.{SlotRecord}
 
 pub empty-unique : (r₁ r₂ : SlotRecord) → r₁ ≡ empty → r₂ ≡ empty → r₁ ≡ r₂
 empty-unique r₁ r₂ = unique
 
-pub begun-unique : (start : ℕ) (r₁ r₂ : SlotRecord) → r₁ ≡ begun start → r₂ ≡ begun start → r₁ ≡ r₂
-begun-unique start r₁ r₂ = unique
+pub idled-unique : (v : SlotRecord) (r₁ r₂ : SlotRecord) → r₁ ≡ idled v → r₂ ≡ idled v → r₁ ≡ r₂
+idled-unique v r₁ r₂ = unique
+
+pub begun-unique : (v : SlotRecord) (start : ℕ) (r₁ r₂ : SlotRecord) → r₁ ≡ begun v start → r₂ ≡ begun v start → r₁ ≡ r₂
+begun-unique v start r₁ r₂ = unique
 
 pub joined-unique : (v : SlotRecord) (e : ReadEntry) (r₁ r₂ : SlotRecord) → r₁ ≡ joined v e → r₂ ≡ joined v e → r₁ ≡ r₂
 joined-unique v e r₁ r₂ = unique
@@ -62,38 +59,5 @@ finished-unique v r₁ r₂ = unique
 pub published-one-unique : (v : SlotRecord) (r₁ r₂ : SlotRecord) → r₁ ≡ publishedOne v → r₂ ≡ publishedOne v → r₁ ≡ r₂
 published-one-unique v r₁ r₂ = unique
 
-pub some-marked-unique : (v : SlotRecord) (r₁ r₂ : Bool) → r₁ ≡ someMarked (readLog v) → r₂ ≡ someMarked (readLog v) → r₁ ≡ r₂
+pub some-marked-unique : (v : SlotRecord) (r₁ r₂ : Bool) → r₁ ≡ hasMark v → r₂ ≡ hasMark v → r₁ ≡ r₂
 some-marked-unique v r₁ r₂ = unique
-
--- what is read of the slot at `at`, and what is put there
-module _ (s : List ℕ) (at width : ℕ) where
-  abbrev here : SlotRecord
-  here = slotOf width (drop at s)
-
-  pub fields-unique : (r₁ r₂ : SlotRecord) → r₁ ≡ fieldsOf here → r₂ ≡ fieldsOf here → r₁ ≡ r₂
-  fields-unique r₁ r₂ = unique
-
-  pub with-writes-unique : (r₁ r₂ : SlotRecord) → r₁ ≡ withoutReads here → r₂ ≡ withoutReads here → r₁ ≡ r₂
-  with-writes-unique r₁ r₂ = unique
-
-  pub read-at-unique : (k : ℕ) (r₁ r₂ : ReadEntry) → r₁ ≡ getD (here .reads) k noRead → r₂ ≡ getD (here .reads) k noRead → r₁ ≡ r₂
-  read-at-unique k r₁ r₂ = unique
-
-  pub write-at-unique : (k : ℕ) (r₁ r₂ : WriteEntry) → r₁ ≡ getD (here .writes) k noWrite → r₂ ≡ getD (here .writes) k noWrite → r₁ ≡ r₂
-  write-at-unique k r₁ r₂ = unique
-
-  pub find-read-unique : (cell : ℕ) (r₁ r₂ : ReadFound) → r₁ ≡ readFound (readEntry (readLog here) cell) → r₂ ≡ readFound (readEntry (readLog here) cell) → r₁ ≡ r₂
-  find-read-unique cell r₁ r₂ = unique
-
-  pub find-write-unique : (cell : ℕ) (r₁ r₂ : WriteFound) → r₁ ≡ writeFound (writeEntry (writeLog here) cell) → r₂ ≡ writeFound (writeEntry (writeLog here) cell) → r₁ ≡ r₂
-  find-write-unique cell r₁ r₂ = unique
-
-  pub marked-here-unique : (r₁ r₂ : Bool) → r₁ ≡ someMarked (readLog here) → r₂ ≡ someMarked (readLog here) → r₁ ≡ r₂
-  marked-here-unique r₁ r₂ = unique
-
-  pub clear-unique : (s₁ s₂ : List ℕ) → s₁ ≡ splice s at (slotBytes width empty) → s₂ ≡ splice s at (slotBytes width empty) → s₁ ≡ s₂
-  clear-unique s₁ s₂ = unique
-
-  -- each function that packs puts one part at one place
-  pub pack-unique : (place : ℕ) (part s₁ s₂ : List ℕ) → s₁ ≡ splice s place part → s₂ ≡ splice s place part → s₁ ≡ s₂
-  pack-unique place part s₁ s₂ = unique

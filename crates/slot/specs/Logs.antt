@@ -55,6 +55,10 @@ readLog v = take (v .readcount) (v .reads)
 abbrev pub writeLog : SlotRecord → List WriteEntry
 writeLog v = take (v .writecount) (v .writes)
 
+-- an entry of the read log is marked
+abbrev pub hasMark : SlotRecord → Bool
+hasMark v = someMarked (readLog v)
+
 -- a busy slot's record, whole, from its logs
 abbrev pub busyRecord : ℕ → Bool → ℕ → ℕ → ℕ → List ReadEntry → List WriteEntry → SlotRecord
 busyRecord phase ignoring taken start commit reads writes =

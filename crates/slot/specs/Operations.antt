@@ -69,9 +69,13 @@ withWrites v writecount writes =
       writes = writes;
     }
 
+-- give up, and a finish that aborts: idle
+abbrev pub idled : SlotRecord → SlotRecord
+idled v = empty
+
 -- begin: open; the start stamp; logs empty
-abbrev pub begun : ℕ → SlotRecord
-begun start = busyRecord 1 false 0 start 0 [] []
+abbrev pub begun : SlotRecord → ℕ → SlotRecord
+begun v start = busyRecord 1 false 0 start 0 [] []
 
 -- read: one more entry in the read log
 abbrev pub joined : SlotRecord → ReadEntry → SlotRecord
@@ -117,9 +121,9 @@ ignoringSet v = moved v (v .phase) true (v .taken) (v .commit)
 
 -- finish: publishing, or idle at once if the write log is empty
 unfoldable pub finished : SlotRecord → SlotRecord
-finished v = cond (eqb (v .writecount) 0) empty (moved v 4 (v .ignoring) (v .taken) (v .commit))
+finished v = cond (eqb (v .writecount) 0) (idled v) (moved v 4 (v .ignoring) (v .taken) (v .commit))
 
 -- publish: one more cell published; after the last, idle
 unfoldable pub publishedOne : SlotRecord → SlotRecord
 publishedOne v =
-    cond (ltb (v .taken + 1) (v .writecount)) (moved v (v .phase) (v .ignoring) (v .taken + 1) (v .commit)) empty
+    cond (ltb (v .taken + 1) (v .writecount)) (moved v (v .phase) (v .ignoring) (v .taken + 1) (v .commit)) (idled v)

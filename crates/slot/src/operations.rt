@@ -2,11 +2,12 @@
 ghost use mathlib.Core.Path.{_≡_};
 ghost use Prim.Native.Nat.{_<_};
 ghost use Rattle.slot.specs.Layout.{readCapacity};
-ghost use Rattle.slot.specs.Logs.{readLog, someMarked};
+ghost use Rattle.slot.specs.Logs.{hasMark};
 ghost use Rattle.slot.specs.Operations.{
   Writable,
   lowerOf,
   higherOf,
+  idled,
   begun,
   joined,
   written,
@@ -37,11 +38,18 @@ fn higher(a: WriteEntry, b: WriteEntry) -> WriteEntry
 }
 
 impl SlotRecord {
-    // begin
-    pub fn begun(start: u64) -> Self
-        ensures { λ r. ⌜ r ≡ begun start ⌝ }
+    // give up, and a finish that aborts: whatever the slot was
+    pub fn idled(self) -> Self
+        ensures { λ r. ⌜ r ≡ idled self ⌝ }
     {
-        let mut v = SlotRecord::empty();
+        SlotRecord::empty()
+    }
+
+    // begin
+    pub fn begun(self, start: u64) -> Self
+        ensures { λ r. ⌜ r ≡ begun self start ⌝ }
+    {
+        let mut v = self.idled();
         v.phase = 1;
         v.start = start;
         v
@@ -99,7 +107,7 @@ impl SlotRecord {
     }
 
     // enter
-    pub fn entered(mut self, reads: [ReadEntry; 16], commit: u64) -> Self
+    pub fn entered(mut self, reads: [ReadEntry; SlotRecord::READS], commit: u64) -> Self
         ensures { λ r. ⌜ r ≡ entered self reads commit ⌝ }
     {
         self.phase = 3;
@@ -110,7 +118,7 @@ impl SlotRecord {
     }
 
     // reload
-    pub fn reloaded(mut self, reads: [ReadEntry; 16], commit: u64) -> Self
+    pub fn reloaded(mut self, reads: [ReadEntry; SlotRecord::READS], commit: u64) -> Self
         ensures { λ r. ⌜ r ≡ reloadedWith self reads commit ⌝ }
     {
         self.ignoring = false;
@@ -132,7 +140,7 @@ impl SlotRecord {
         ensures { λ r. ⌜ r ≡ finished self ⌝ }
     {
         if self.writecount == 0 {
-            return SlotRecord::empty();
+            return self.idled();
         }
         self.phase = 4;
         self
@@ -148,12 +156,12 @@ impl SlotRecord {
             self.taken = next;
             return self;
         }
-        SlotRecord::empty()
+        self.idled()
     }
 
     // Whether an entry of the read log is marked.
     pub fn some_marked(self) -> bool
-        ensures { λ r. ⌜ r ≡ someMarked (readLog self) ⌝ }
+        ensures { λ r. ⌜ r ≡ hasMark self ⌝ }
     {
         let log = self.reads;
         let count = self.readcount as usize;

@@ -19,9 +19,9 @@ use Rattle.slot.specs.Logs.{writesCell}
 use Rattle.slot.proofs.Logic.{true-or, or-true, false-or, both-ways}
 use Rattle.slot.proofs.Entry.{first-byte}
 use Rattle.rules.specs.Layout.{countIn}
+use Rattle.slotright.proofs.Chains.{either}
+use Rattle.slotright.proofs.Tables.{or-false, any-snoc}
 use Rattle.wellformed.specs.Claims.{holderIn, inPart, claimRight, Claimed}
-use Rattle.wellformed.proofs.Chains.{either}
-use Rattle.wellformed.proofs.Tables.{or-false, any-snoc}
 use Rattle.wellformed.proofs.HolderLaws.{claim-at, claim-of}
 
 -- a part of a write log: no entry, one entry more, and each entry's cell

@@ -18,14 +18,14 @@ use Rattle.rules.specs.Model.{controller}
 use Rattle.rules.specs.Layout.{cellsIn, clockIn}
 use Rattle.rules.specs.LogsRight.{writesRight}
 use Rattle.rules.specs.AreaRight.{countsRight, unusedZero, takenRight, busyRight, slotPlaceRight, recordHolds}
-use Rattle.wellformed.specs.Frame.{Framed}
-use Rattle.wellformed.specs.Slots.{Counted, logsRight, numbersRight, markedRight}
+use Rattle.slotright.specs.Frame.{Framed}
+use Rattle.slotright.specs.SlotParts.{Counted, bothLogsRight, numbersRight, markedRight}
+use Rattle.slotright.proofs.Chains.{pick-yes, pick-no}
+use Rattle.slotright.proofs.Tables.{take-tab}
+use Rattle.slotright.proofs.CellPlaces.{logged-below}
+use Rattle.slotright.proofs.LogLaws.{wordIn, writes-at}
+use Rattle.slotright.proofs.SlotLaws.{counted, busy-order}
 use Rattle.wellformed.specs.Claims.{inPart, Part, SlotRight}
-use Rattle.wellformed.proofs.Chains.{pick-yes, pick-no}
-use Rattle.wellformed.proofs.Tables.{take-tab}
-use Rattle.wellformed.proofs.Places.{logged-below}
-use Rattle.wellformed.proofs.LogLaws.{wordIn, writes-at}
-use Rattle.wellformed.proofs.SlotLaws.{counted, busy-order}
 
 -- a part of the write log that may be read, and has just the cells that the slot has to hold
 pub record Held (n : ℕ) (l : List ℕ) (from to : ℕ) : Type 0 where
@@ -50,7 +50,7 @@ module _ (n : ℕ) (a : List ℕ) (f : Framed n a) (l : List ℕ) (right : SlotR
 
     parts :
         (countsRight (slotOf 8 l)
-        and logsRight (cellsIn controller a) (slotOf 8 l)
+        and bothLogsRight (cellsIn controller a) (slotOf 8 l)
         and numbersRight (clockIn controller a) (slotOf 8 l)
         and unusedZero 8 l (slotOf 8 l)
         and markedRight l)
@@ -61,7 +61,7 @@ module _ (n : ℕ) (a : List ℕ) (f : Framed n a) (l : List ℕ) (right : SlotR
     counts = counted l (right .size) (and-left _ _ parts)
 
     writes : writesRight (cellsIn controller a) (writeLog (slotOf 8 l)) ≡ true
-    unfolding logsRight
+    unfolding bothLogsRight
     writes = and-right _ _ (and-left _ _ (and-right _ _ parts))
 
     taken-right : takenRight (slotOf 8 l) ≡ true

@@ -9,8 +9,8 @@ use borrow.Author.Tests.{eq-eqb, ne-eqb, eqb-true, le-leb, leb-true}
 use lib.Dec.{eqb, leb}
 use Rattle.slot.specs.Logic.{_and_, _or_, same, every}
 use Rattle.slot.proofs.Logic.{and-intro, and-left, and-right, or-right, or-when, both-ways, every-at, every-of}
+use Rattle.slotright.proofs.Chains.{either}
 use Rattle.wellformed.specs.Claims.{claimRight}
-use Rattle.wellformed.proofs.Chains.{either}
 
 same-true : (a b : Bool) → same a b ≡ true → a ≡ b
 unfolding same

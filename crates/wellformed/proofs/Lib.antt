@@ -1,12 +1,5 @@
-pub mod Chains
 pub mod Places
-pub mod Words
-pub mod Zero
-pub mod Tables
-pub mod LogLaws
-pub mod Marks
-pub mod Numbers
-pub mod SlotLaws
+pub mod AreaLaws
 pub mod HolderLaws
 pub mod Claims
 pub mod Held

@@ -1,29 +1,27 @@
--- The clauses of the header and of a cell, said of the bytes at their places: a record read from an offset on is its bytes there, and an element of a
--- table is what stands at its place.
+-- The clauses of the header and of a cell, said of the bytes at their places: a record read from an offset on is its bytes there.
 use mathlib.Core.Bool.{true, false}
 use mathlib.Core.List.{List}
 use mathlib.Core.Path.{_≡_, refl, sym, _∙_}
-use Prim.Native.Nat.{ℕ, _+_, _*_, _<_, _≤_}
+use Prim.Native.Nat.{ℕ, _+_, _*_, _≤_}
 use native.Mathlib.Omega.{arith}
-use borrow.Author.Tests.{lt-ltb, le-ltb, ltb-true, leb-true, eqb-true, eq-eqb, ne-eqb}
+use borrow.Author.Tests.{leb-true, eqb-true, eq-eqb, ne-eqb}
 use lib.Dec.{eqb, leb}
 use lib.ListN.{length, getD, drop}
 use lib.Seq.{drop-drop, getD-drop}
 use Rattle.wire.specs.Field.{be}
-use Rattle.wire.proofs.Laws.Table.{length-tab, getD-tab}
 use Rattle.value.specs.Legal.{legalWord}
 use Rattle.slot.specs.Logic.{_and_}
 use Rattle.slot.proofs.Logic.{and-assoc, and-left, and-right}
 use Rattle.slot.proofs.Entry.{first-byte}
 use Rattle.rules.specs.Model.{controller}
-use Rattle.rules.specs.State.{noCell}
-use Rattle.rules.specs.Layout.{cellOf, cellsIn, countIn}
-use Rattle.rules.specs.LogsRight.{loggedRight, cellCountRight}
+use Rattle.rules.specs.Layout.{cellOf, countIn}
+use Rattle.rules.specs.LogsRight.{cellCountRight}
 use Rattle.rules.specs.AreaRight.{lengthsAgree, versionRight}
 use Rattle.rules.proofs.Controller.{controller-length}
-use Rattle.wellformed.specs.Frame.{headerRight, Framed}
+use Rattle.slotright.specs.Frame.{Framed}
+use Rattle.slotright.proofs.Chains.{stop, pass}
+use Rattle.wellformed.specs.AreaParts.{headerRight}
 use Rattle.wellformed.specs.Claims.{cellDue}
-use Rattle.wellformed.proofs.Chains.{stop, pass}
 
 -- the header's clauses, in their order
 module _ (l : List ℕ) where
@@ -60,28 +58,3 @@ pub cell-places : (clock due at : ℕ) (l : List ℕ)
     ≡ cellDue clock due (cellOf 8 (drop at l))
 unfolding cellDue cellOf
 cell-places clock due at l = rw (first-byte l at, ← getD-drop at l 1 0, ← drop-drop 2 at l, ← drop-drop 6 at l)
-
-module _ (n : ℕ) (l : List ℕ) (f : Framed n l) where
-  pub length-cells : length (cellsIn controller l) ≡ n
-  unfolding cellsIn
-  length-cells = length-tab (countIn l) (λ c. cellOf 8 (drop (14 + 14 * c) l)) ∙ f .count
-
-  pub cell-at : (c : ℕ) → c < n → getD (cellsIn controller l) c noCell ≡ cellOf 8 (drop (14 + 14 * c) l)
-  unfolding cellsIn
-  cell-at c h = getD-tab (countIn l) (λ i. cellOf 8 (drop (14 + 14 * i) l)) noCell c (omega arith)
-
-  kind-at : (c : ℕ) → c < n → getD (cellsIn controller l) c noCell .kind ≡ getD l (14 + 14 * c) 0
-  unfolding cellOf
-  kind-at c h = rw (cell-at c h) (sym (first-byte l (14 + 14 * c)))
-
-  pub logged-place : (c word : ℕ) → c < n → legalWord (getD l (14 + 14 * c) 0) word ≡ loggedRight (cellsIn controller l) c word
-  unfolding loggedRight
-  logged-place c word h = pass _ _ _ (rw length-cells (lt-ltb c n h)) (rw (kind-at c h))
-
-  pub logged-past : (c word : ℕ) → n ≤ c → false ≡ loggedRight (cellsIn controller l) c word
-  unfolding loggedRight
-  logged-past c word h = stop _ _ _ (rw length-cells (le-ltb c n h)) refl
-
-  pub logged-below : (c word : ℕ) → loggedRight (cellsIn controller l) c word ≡ true → c < n
-  unfolding loggedRight
-  logged-below c word p = let below : c < length (cellsIn controller l) = ltb-true _ _ (and-left _ _ p) in rw length-cells at below

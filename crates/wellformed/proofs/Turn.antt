@@ -16,11 +16,12 @@ use Rattle.rules.specs.State.{noCell}
 use Rattle.rules.specs.Layout.{cellOf, countIn, cellsIn, slotPlace, recordsIn}
 use Rattle.rules.specs.LogsRight.{cellRight, holdersRight}
 use Rattle.rules.specs.AreaRight.{recordHolds, areaHoldersRight}
-use Rattle.wellformed.specs.Frame.{Framed, cellsRight}
+use Rattle.slotright.specs.Frame.{Framed}
+use Rattle.slotright.proofs.Chains.{passes, fails, and-comm, and-swap, every-start, every-next, every-and}
+use Rattle.slotright.proofs.CellPlaces.{length-cells, cell-at}
+use Rattle.wellformed.specs.AreaParts.{cellsRight}
 use Rattle.wellformed.specs.Claims.{holderIn, Claimed, cellDue, cellsDue}
-use Rattle.wellformed.proofs.Chains.{passes, fails, and-comm, and-swap, every-start, every-next, every-and}
-use Rattle.wellformed.proofs.Places.{length-cells, cell-at}
-use Rattle.wellformed.proofs.SlotLaws.{cells-all}
+use Rattle.wellformed.proofs.AreaLaws.{cells-all}
 use Rattle.wellformed.proofs.HolderLaws.{Due, claim, holders, due-start, due-next, holders-no, holders-due}
 
 -- the cells that slot k has to hold

@@ -12,8 +12,8 @@ use Rattle.slot.specs.Logic.{_and_, _or_, every}
 use Rattle.slot.specs.Logs.{writesCell}
 use Rattle.rules.specs.Model.{controller}
 use Rattle.rules.specs.declared.Cell.{Cell}
-use Rattle.rules.specs.Layout.{cellOf, countIn, clockIn, cellsIn}
-use Rattle.rules.specs.AreaRight.{slotPlaceRight}
+use Rattle.rules.specs.Layout.{cellOf, countIn, clockIn}
+use Rattle.slotright.specs.SlotParts.{slotRightIn}
 
 -- the holder's byte of cell c
 abbrev pub holderIn : List ℕ → ℕ → ℕ
@@ -37,7 +37,7 @@ pub record Part (n : ℕ) (l : List ℕ) (from to : ℕ) : Type 0 where
 -- the bytes of a slot that is right but for the holders, in the area a
 pub record SlotRight (a l : List ℕ) : Type 0 where
   pub size : 197 ≤ length l
-  pub right : slotPlaceRight controller (cellsIn controller a) (clockIn controller a) l ≡ true
+  pub right : slotRightIn a (clockIn controller a) l ≡ true
 
 -- whether the claim is right in the area a; if so, the slot is now due to each cell that it claims, and nothing else has changed
 pub record Claimed (a : List ℕ) (H : ℕ → Bool) (slot : ℕ) (r : Bool) (before after : List ℕ) : Type 0 where

@@ -1,3 +1,2 @@
-pub mod Frame
-pub mod Slots
+pub mod AreaParts
 pub mod Claims

@@ -2,31 +2,12 @@
 ghost use mathlib.Core.Path.{_≡_};
 ghost use Prim.Native.Nat.{_+_, _≤_};
 ghost use lib.ListN.{length, drop};
-ghost use Rattle.wire.specs.Field.{be};
-ghost use Rattle.value.specs.Legal.{legalWord};
 ghost use Rattle.rules.specs.Layout.{cellOf};
-ghost use Rattle.wellformed.specs.Frame.{Framed};
+ghost use Rattle.slotright.specs.Frame.{Framed};
 ghost use Rattle.wellformed.specs.Claims.{cellDue, cellsDue};
-use crate::CELL;
-use crate::CELLS;
-use crate::word_at;
-
-// Whether the word at `at` is legal for the kind. It is read only where the kind asks for it, which joins the loads of its bytes.
-pub fn legal_at(kind: u8, s: &[u8], at: usize) -> bool
-    requires { ⌜ at + 4 ≤ length (now s) ⌝ }
-    ensures { λ r. ⌜ r ≡ legalWord kind (be 4 (drop at (now (s .entry)))) ⌝ }
-{
-    if kind == 2 {
-        return true;
-    }
-    if kind == 1 {
-        return value::legal(1, word_at(s, at));
-    }
-    if kind == 3 {
-        return value::legal(3, word_at(s, at));
-    }
-    false
-}
+use slotright::CELL;
+use slotright::CELLS_AT;
+use slotright::legal_at;
 
 // Whether the cell at `at` is right and held by the slot due to it, 0 for none.
 fn cell_right(s: &[u8], at: usize, clock: u64, due: u8) -> bool
@@ -49,7 +30,7 @@ pub fn cells_right(s: &[u8], n: usize, clock: u64, due: &[u8]) -> bool
 {
     let mut c = 0;
     while c < n {
-        if !cell_right(s, CELLS + CELL * c, clock, due[c]) {
+        if !cell_right(s, CELLS_AT + CELL * c, clock, due[c]) {
             return false;
         }
         c += 1;

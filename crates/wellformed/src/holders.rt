@@ -8,18 +8,19 @@ ghost use Rattle.slot.specs.Layout.{slotOf};
 ghost use Rattle.rules.specs.Model.{controller};
 ghost use Rattle.rules.specs.Layout.{countIn, clockIn};
 ghost use Rattle.rules.specs.AreaRight.{recordHolds, areaHoldersRight};
-ghost use Rattle.wellformed.specs.Frame.{Framed, cellsRight, slotsRight};
+ghost use Rattle.slotright.specs.Frame.{Framed};
+ghost use Rattle.wellformed.specs.AreaParts.{cellsRight, slotsRight};
 ghost use Rattle.wellformed.specs.Claims.{inPart, Part, SlotRight, Claimed};
-use crate::CELL;
-use crate::CELLS;
-use crate::PHASE;
-use crate::TAKEN;
-use crate::WRITE;
-use crate::WRITE_COUNT;
-use crate::WRITES;
 use crate::cells;
-use crate::index;
 use crate::slots;
+use slotright::CELL;
+use slotright::CELLS_AT;
+use slotright::PHASE_AT;
+use slotright::TAKEN_AT;
+use slotright::WRITE;
+use slotright::WRITE_COUNT_AT;
+use slotright::WRITES_AT;
+use slotright::index;
 
 // Whether the slot holds the cells in this part of its write log, each of which is then due to it.
 fn claim_part(s: &[u8], slot: u8, t: &[u8], from: usize, to: usize, due: &mut [u8]) -> bool
@@ -28,8 +29,8 @@ fn claim_part(s: &[u8], slot: u8, t: &[u8], from: usize, to: usize, due: &mut [u
 {
     let mut i = from;
     while i < to {
-        let c = index(t[WRITES + WRITE * i]);
-        if s[CELLS + CELL * c + 1] != slot {
+        let c = index(t[WRITES_AT + WRITE * i]);
+        if s[CELLS_AT + CELL * c + 1] != slot {
             return false;
         }
         due[c] = slot;
@@ -43,9 +44,9 @@ fn claim(s: &[u8], slot: u8, t: &[u8], due: &mut [u8]) -> bool
     requires { ⌜ (Framed (countIn (now s)) (now s)) × (SlotRight (now s) (now t)) × (64 ≤ length (now due)) ⌝ }
     ensures { λ r. ⌜ Claimed (now (s .entry)) (recordHolds (slotOf 8 (now (t .entry)))) slot r (now (due .entry)) (now (due .exit)) ⌝ }
 {
-    let phase = t[PHASE];
-    let taken = index(t[TAKEN]);
-    let count = index(t[WRITE_COUNT]);
+    let phase = t[PHASE_AT];
+    let taken = index(t[TAKEN_AT]);
+    let count = index(t[WRITE_COUNT_AT]);
     if phase == 2 {
         return claim_part(s, slot, t, 0, taken, due);
     }

@@ -8,12 +8,13 @@ ghost use Rattle.rules.specs.Model.{controller};
 ghost use Rattle.rules.specs.Layout.{recordsIn};
 ghost use Rattle.rules.specs.LogsRight.{stampsApart};
 ghost use Rattle.rules.specs.AreaRight.{commitsApart};
-ghost use Rattle.wellformed.specs.Frame.{Framed, stampIn};
-use crate::CELL;
-use crate::CELLS;
-use crate::COMMIT;
-use crate::SLOT;
+ghost use Rattle.slotright.specs.Frame.{Framed};
+ghost use Rattle.wellformed.specs.AreaParts.{stampIn};
 use crate::SLOTS;
+use slotright::CELL;
+use slotright::CELLS_AT;
+use slotright::COMMIT_AT;
+use slotright::SLOT;
 
 // The slots' commit stamps.
 fn stamps_of(s: &[u8], n: usize) -> [u64; 8]
@@ -23,7 +24,7 @@ fn stamps_of(s: &[u8], n: usize) -> [u64; 8]
     let mut stamps = [0u64; 8];
     let mut k = 0;
     while k < SLOTS {
-        stamps[k] = wire::get(s, CELLS + CELL * n + SLOT * k + COMMIT, 8);
+        stamps[k] = wire::get(s, CELLS_AT + CELL * n + SLOT * k + COMMIT_AT, 8);
         k += 1;
     }
     stamps

@@ -9,7 +9,6 @@ ghost use Rattle.rules.specs.Steps as rule;
 ghost use Rattle.area.specs.Good.{Good, stateIn};
 ghost use Rattle.ways.specs.Did.{Did};
 ghost use Rattle.ways.specs.Asked.{noRoom};
-use area::stores;
 use call::Reply;
 use slot::SlotRecord;
 use slot::WriteEntry;

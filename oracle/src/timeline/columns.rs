@@ -1,12 +1,9 @@
 //! How wide the column of each step is, and which columns make a row.
 
 use super::moment::Moment;
+use super::signs::{SIZE, SMALL, TAG_AIR};
 use super::svg::Words;
 
-/// Size of the words on a lane.
-pub(super) const SIZE: i32 = 15;
-/// Size of the words in tags and on holds.
-pub(super) const SMALL: i32 = 14;
 /// Room for the names of the lanes.
 pub(super) const NAMES: i32 = 84;
 
@@ -17,8 +14,6 @@ const GUTTER: i32 = 78;
 const NARROWEST_COLUMN: i32 = 48;
 /// Beside the words of a column, both sides together.
 const AIR: i32 = 8;
-/// Within a tag or a hold, beside its words, both sides together.
-pub(super) const TAG_AIR: i32 = 10;
 
 /// Steps beside each other.
 pub(super) struct Row<'a> {

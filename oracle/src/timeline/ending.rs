@@ -1,8 +1,8 @@
 //! The cells and the clock at the end of a run.
 
-use super::moment::words;
+use super::course::Timeline;
 use super::svg::{Anchor, Picture, Words, INK, PALE_INK};
-use super::Timeline;
+use super::table::{cell_table, TableRow};
 
 const LINE: i32 = 24;
 const SIZE: i32 = 15;
@@ -10,25 +10,6 @@ const SIZE: i32 = 15;
 const ROWS: usize = 8;
 const BETWEEN_COLUMNS: i32 = 18;
 const BETWEEN_BLOCKS: i32 = 40;
-
-pub(super) type TableRow = [String; 6];
-
-/// A row of names, then a row for each cell.
-pub(super) fn cell_table(timeline: &Timeline) -> Vec<TableRow> {
-    let names = ["cell", "kind", "at first", "at the end", "stamp", "holder"];
-    let mut rows = vec![names.map(str::to_string)];
-    let cells = (0..).zip(timeline.first_values.iter().zip(timeline.end.cells()));
-    for (number, (first, last)) in cells {
-        let holder = match timeline.end.holder(number) {
-            0 => "none".to_string(),
-            slot => format!("slot {slot}"),
-        };
-        let kind = first.kind().name().to_string();
-        let (first, end) = (words(*first), words(last.value));
-        rows.push([number.to_string(), kind, first, end, last.stamp.to_string(), holder]);
-    }
-    rows
-}
 
 /// Draws the clock and the cells at the end within this width, and says how
 /// far to the right and down they go.

@@ -1,17 +1,16 @@
 //! A row of the picture: the lanes of all slots over some steps.
 
-use super::columns::{Row, NAMES, SIZE, SMALL, TAG_AIR};
-use super::moment::{Moment, Obstacle, Shade, Showing, Tag};
-use super::svg::{phase_fill, tag_look, Anchor, Picture, Words};
-use super::svg::{ALARM, HOLD, INK, PALE_INK, PAPER, WARNING};
-use super::{lane_name, Timeline};
+use super::columns::{Row, NAMES};
+use super::course::Timeline;
+use super::moment::{lane_name, Moment, Obstacle, Shade, Showing};
+use super::signs::{draw_hold, draw_tag, phase_fill};
+use super::signs::{ALARM, HOLD_HEIGHT, LANE_LINE, SIZE, WARNING};
+use super::svg::{Anchor, Picture, Words, INK, PALE_INK};
 
 const AXIS: i32 = 30;
 const LINE: i32 = 19;
 const TAG: i32 = 26;
-pub(super) const TAG_HEIGHT: i32 = 22;
 const HOLD_LINE: i32 = 22;
-pub(super) const HOLD_HEIGHT: i32 = 18;
 const BETWEEN_LANES: i32 = 14;
 const CLOCK: i32 = 34;
 const STRIPE: &str = "#f3f4f6";
@@ -142,7 +141,7 @@ impl Drawing<'_> {
         self.picture.words(self.left, lane.band_middle() + 6, &words);
         let ends = (self.left + self.row.start(), self.left + self.row.width());
         let y = lane.band_middle();
-        self.picture.line((ends.0, y), (ends.1, y), "#9ca3af", 2);
+        self.picture.line((ends.0, y), (ends.1, y), LANE_LINE, 2);
         self.bands(lane);
         for hold in &lane.holds {
             self.hold(lane, hold);
@@ -192,9 +191,7 @@ impl Drawing<'_> {
         let left = self.left + left + 2;
         let top = lane.hold_top(hold);
         let width = self.left + self.row.left(hold.to + 1) - 2 - left;
-        self.picture.area((left, top), (width, HOLD_HEIGHT), 9, HOLD);
-        let cell = format!("cell {}", hold.cell);
-        self.picture.words(left + 8, top + 14, &Words::new(&cell, SMALL).ink(PAPER));
+        draw_hold(self.picture, &format!("cell {}", hold.cell), (left, top), width);
     }
 
     fn step(&mut self, lane: &Lane, column: usize, moment: &Moment) {
@@ -262,14 +259,4 @@ impl Drawing<'_> {
             last = Some(moment.clock);
         }
     }
-}
-
-/// A tag around its words, with its middle and its top there.
-pub(super) fn draw_tag(picture: &mut Picture, tag: &Tag, at: (i32, i32)) {
-    let (middle, top) = at;
-    let (fill, edge, ink) = tag_look(tag.kind);
-    let words = Words::new(&tag.words, SMALL).bold().ink(ink).anchor(Anchor::Middle);
-    let width = words.width() + TAG_AIR;
-    picture.bordered((middle - width / 2, top), (width, TAG_HEIGHT), 6, fill, edge);
-    picture.words(middle, top + 16, &words);
 }

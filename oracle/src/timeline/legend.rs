@@ -1,10 +1,10 @@
 //! What the colours and the signs of a picture mean.
 
-use super::columns::{SIZE, SMALL};
-use super::lanes::{draw_tag, HOLD_HEIGHT, TAG_HEIGHT};
+use super::course::{code_words, Timeline};
 use super::moment::{Shade, Tag, TagKind};
-use super::svg::{phase_fill, Picture, Words, ALARM, HOLD, PAPER, WARNING};
-use super::{code_words, Timeline};
+use super::signs::{draw_hold, draw_tag, phase_fill};
+use super::signs::{ALARM, HOLD_HEIGHT, LANE_LINE, SIZE, SMALL, TAG_HEIGHT, WARNING};
+use super::svg::{Picture, Words};
 
 const LINE: i32 = 32;
 const BETWEEN_ITEMS: i32 = 30;
@@ -48,7 +48,7 @@ impl Sign {
         let width = self.width();
         match self {
             Sign::Phase(Shade::Idle) => {
-                picture.line((left, middle), (left + width, middle), "#9ca3af", 2);
+                picture.line((left, middle), (left + width, middle), LANE_LINE, 2);
             }
             Sign::Phase(shade) => {
                 let size = (width, TAG_HEIGHT);
@@ -58,9 +58,7 @@ impl Sign {
                 draw_tag(picture, tag, (left + width / 2, middle - TAG_HEIGHT / 2));
             }
             Sign::Hold => {
-                let top = middle - HOLD_HEIGHT / 2;
-                picture.area((left, top), (width, HOLD_HEIGHT), 9, HOLD);
-                picture.words(left + 8, top + 14, &Words::new("cell c", SMALL).ink(PAPER));
+                draw_hold(picture, "cell c", (left, middle - HOLD_HEIGHT / 2), width);
             }
             Sign::Pointer(ink) => {
                 picture.pointer((left, middle), (left + width - 8, middle), ink);

@@ -3,69 +3,31 @@
 //!
 //! Only one slot acts in a step, so a column has the words of one lane, and no
 //! words can meet if each column is as wide as its own.
+//!
+//! A module uses only those before it in this order: `title`, `svg` (the
+//! canvas), `moment` (one step), `course` (all of them), `table`, `plain`,
+//! `signs`, `columns`, `lanes`, `ending`, `legend`, `whole`.
 
 mod columns;
+mod course;
 mod ending;
 mod lanes;
 mod legend;
 mod moment;
 mod plain;
+mod signs;
 mod svg;
+mod table;
 mod title;
+mod whole;
 
-use crate::binary::Sheet;
-use crate::machine::{Machine, SLOTS};
-use crate::run::looks_like_text;
-use crate::text;
-use crate::value::Value;
-
-use moment::Moment;
-use title::Title;
+pub use course::Timeline;
 
 /// Most steps of a picture. One of more rows than these make is too tall to
 /// be looked at; the plain form has no such limit.
 pub const PICTURE_STEPS_AT_MOST: usize = 400;
 
-/// The lane of the steps whose slot is none.
-const NO_SLOT: u8 = 0;
-
-/// The run of a sheet, ready to be drawn.
-pub struct Timeline {
-    title: Title,
-    /// Slots in ascending order, then [`NO_SLOT`] if a step needs it.
-    lanes: Vec<u8>,
-    moments: Vec<Moment>,
-    first_values: Vec<Value>,
-    end: Machine,
-}
-
 impl Timeline {
-    /// The run of a sheet in either form. The comment at the head of a text is
-    /// its title.
-    pub fn read(bytes: &[u8]) -> Result<Timeline, String> {
-        if looks_like_text(bytes) {
-            let sheet = text::assemble(bytes).map_err(|error| error.to_string())?;
-            let words = String::from_utf8_lossy(text::unmarked(bytes));
-            return Timeline::of(&sheet, &words).map_err(|bad| format!("bad sheet: {bad}"));
-        }
-        let sheet = Sheet::decode(bytes).map_err(|bad| format!("bad sheet: {bad}"))?;
-        Timeline::of(&sheet, "").map_err(|bad| format!("bad sheet: {bad}"))
-    }
-
-    /// The run of a sheet, with the title that the comments of this text give.
-    pub fn of(sheet: &Sheet, words: &str) -> Result<Timeline, crate::BadSheet> {
-        let first_values = sheet.cells().to_vec();
-        let mut machine = Machine::fresh(&first_values).ok_or(crate::BadSheet::Cells)?;
-        let mut moments = Vec::new();
-        for (place, &call) in (1..).zip(sheet.calls()) {
-            moments.push(Moment::made(&mut machine, place, call));
-        }
-        let mut lanes: Vec<u8> = (1..=SLOTS as u8).collect();
-        lanes.push(NO_SLOT);
-        lanes.retain(|lane| moments.iter().any(|moment| moment.lane == *lane));
-        Ok(Timeline { title: Title::of(words), lanes, moments, first_values, end: machine })
-    }
-
     /// The plain form, for a terminal.
     pub fn plain(&self) -> String {
         plain::plain(self)
@@ -80,42 +42,6 @@ impl Timeline {
                  without --svg it is shown whole"
             ));
         }
-        Ok(svg::whole(self))
-    }
-
-    /// The codes that some step got, in ascending order.
-    fn codes(&self) -> Vec<u8> {
-        let mut codes: Vec<u8> = self.moments.iter().map(|moment| moment.code).collect();
-        codes.retain(|code| *code != 0);
-        codes.sort_unstable();
-        codes.dedup();
-        codes
-    }
-}
-
-/// What stands at the left of a lane.
-fn lane_name(lane: u8) -> String {
-    match lane {
-        NO_SLOT => "no slot".to_string(),
-        slot => format!("slot {slot}"),
-    }
-}
-
-/// What a code means, short enough for a legend.
-fn code_words(code: u8) -> &'static str {
-    match code {
-        2 => "there is no such step",
-        3 => "there is no such slot",
-        4 => "not allowed in the slot's present state",
-        5 => "there is no such cell",
-        6 => "illegal kind or word",
-        7 => "the kind differs from the cell's",
-        8 => "the cell is not in the log",
-        9 => "the log has 16 entries",
-        10 => "the cell is held by another slot, or newer than the start",
-        11 => "the cell is held by another slot",
-        12 => "the clock is at its end",
-        13 => "marked and not ignored: ended without commit",
-        _ => "the area is not well formed",
+        Ok(whole::picture(self))
     }
 }

@@ -4,7 +4,8 @@ use crate::call::{Call, Refusal, Reply, Step};
 use crate::machine::{Machine, Phase, Transaction, SLOTS};
 use crate::value::Value;
 
-use super::NO_SLOT;
+/// The lane of the steps whose slot is none.
+pub(super) const NO_SLOT: u8 = 0;
 
 /// So many marked cells are named; of more, the number is told.
 const MARKS_NAMED: usize = 3;
@@ -320,5 +321,13 @@ pub(super) fn words(value: Value) -> String {
         Value::Whole(whole) => whole.to_string(),
         // As in the text form: both zeros are told apart.
         Value::Real(real) => format!("{real:?}"),
+    }
+}
+
+/// What stands at the left of a lane.
+pub(super) fn lane_name(lane: u8) -> String {
+    match lane {
+        NO_SLOT => "no slot".to_string(),
+        slot => format!("slot {slot}"),
     }
 }

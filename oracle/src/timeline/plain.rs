@@ -1,9 +1,9 @@
 //! The plain form: fixed-width text, in pages that fit a terminal.
 
-use super::ending::cell_table;
-use super::moment::{Moment, Shade, Showing};
+use super::course::{code_words, Timeline};
+use super::moment::{lane_name, Moment, Shade, Showing};
+use super::table::cell_table;
 use super::title::wrapped;
-use super::{code_words, lane_name, Timeline};
 
 /// Characters of a line, as many as every terminal has.
 const PAGE_WIDTH: usize = 80;

@@ -1,27 +1,14 @@
-//! The picture: its elements, and how its parts stand on it.
+//! The canvas: boxes, lines and words. It knows nothing of what is drawn on it.
 //!
 //! Attributes stand on each element and there is no style sheet: programs that
 //! make slides understand no more than that. All places are whole numbers, so
-//! the same sheet gives the same bytes everywhere.
-
-use super::moment::{Shade, TagKind};
-use super::title::wrapped;
-use super::{columns, ending, lanes, legend, Timeline};
+//! the same drawing gives the same bytes everywhere.
 
 pub(super) const INK: &str = "#111827";
 pub(super) const PALE_INK: &str = "#4b5563";
 pub(super) const PAPER: &str = "#ffffff";
-pub(super) const ALARM: &str = "#b91c1c";
-pub(super) const WARNING: &str = "#c2410c";
-pub(super) const HOLD: &str = "#374151";
 
 const FONTS: &str = "Helvetica, Arial, 'DejaVu Sans', sans-serif";
-const MARGIN: i32 = 28;
-const NARROWEST: i32 = 1040;
-/// Narrower than this, a legend has a line for each sign.
-const LEGEND_WIDTH: i32 = 840;
-const HEADING_SIZE: i32 = 28;
-const REST_SIZE: i32 = 17;
 
 /// Where the place of words is on them.
 #[derive(Clone, Copy, PartialEq, Eq)]
@@ -133,7 +120,7 @@ impl Picture {
         );
     }
 
-    /// From a step to what is in its way: a dashed line that ends in a dot.
+    /// A dashed line that ends in a dot.
     pub fn pointer(&mut self, from: (i32, i32), to: (i32, i32), ink: &str) {
         let ((x1, y1), (x2, y2)) = (from, to);
         self.shapes += &format!(
@@ -146,7 +133,7 @@ impl Picture {
 
     /// The file. The picture has a ground of its own: it is read as well on a
     /// dark page as on a light one.
-    fn file(self, width: i32, height: i32, title: &str) -> String {
+    pub fn file(self, width: i32, height: i32, title: &str) -> String {
         let Picture { shapes, words } = self;
         let title = escaped(title);
         format!(
@@ -161,63 +148,4 @@ impl Picture {
 
 fn escaped(words: &str) -> String {
     words.replace('&', "&amp;").replace('<', "&lt;").replace('>', "&gt;").replace('"', "&quot;")
-}
-
-/// The ground of a phase. Idle has none.
-pub(super) fn phase_fill(shade: Shade) -> &'static str {
-    match shade {
-        Shade::Idle => "none",
-        Shade::Open => "#bfdbfe",
-        Shade::Locking => "#fde68a",
-        Shade::Twilight => "#d8c9fb",
-        Shade::Publishing => "#b5ecc5",
-    }
-}
-
-/// Ground, edge and ink of a tag.
-pub(super) fn tag_look(kind: TagKind) -> (&'static str, &'static str, &'static str) {
-    match kind {
-        TagKind::Stamp => ("#1e3a8a", "#1e3a8a", PAPER),
-        TagKind::Mark => ("#fff7ed", WARNING, "#9a3412"),
-        TagKind::Commit => ("#166534", "#166534", PAPER),
-        TagKind::NoCommit => (PAPER, INK, INK),
-        TagKind::Refused => (ALARM, ALARM, PAPER),
-    }
-}
-
-/// The whole picture: title, rows of lanes, the end, the legend.
-pub(super) fn whole(timeline: &Timeline) -> String {
-    let mut picture = Picture::default();
-    let rows = columns::rows(&timeline.moments);
-    let lanes_width = rows.iter().map(columns::Row::width).max().unwrap_or(0);
-    let inner = lanes_width.max(NARROWEST - 2 * MARGIN);
-    let mut y = draw_title(&mut picture, timeline, inner);
-    for row in &rows {
-        y = lanes::draw(&mut picture, timeline, row, (MARGIN, y)) + 22;
-    }
-    let (right, bottom) = ending::draw(&mut picture, timeline, MARGIN, y, inner);
-    // Beside a narrow table there is room for the legend; else it goes below.
-    let beside = right + 60;
-    let (x, top) =
-        if beside + LEGEND_WIDTH > MARGIN + inner { (MARGIN, bottom + 20) } else { (beside, y) };
-    let legend = legend::draw(&mut picture, timeline, (x, top), MARGIN + inner - x);
-    let width = (MARGIN + inner).max(right) + MARGIN;
-    picture.file(width, bottom.max(legend) + MARGIN, &timeline.title.heading)
-}
-
-/// Draws the title and says where the next thing may begin.
-fn draw_title(picture: &mut Picture, timeline: &Timeline, inner: i32) -> i32 {
-    let mut y = MARGIN;
-    let parts = [(&timeline.title.heading, HEADING_SIZE), (&timeline.title.rest, REST_SIZE)];
-    for (words, size) in parts {
-        // As many as fit of the mixed letters that sentences have.
-        let letters = inner * 100 / (size * if size == HEADING_SIZE { 74 } else { 62 });
-        for line in wrapped(words, letters as usize) {
-            y += size + 8;
-            let line = Words::new(&line, size);
-            let heading = size == HEADING_SIZE;
-            picture.words(MARGIN, y - 8, &if heading { line.bold() } else { line.ink(PALE_INK) });
-        }
-    }
-    y + 14
 }

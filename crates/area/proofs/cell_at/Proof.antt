@@ -17,7 +17,7 @@ cell-of-requires c κs = search needs
 
 returns : tie.Need-returns
 returns c =
-    let start = c .before .before .before in
+    let start = let c : tie.Start = search in c in
     c .cell-of .ensures
     ∙ ap (λ (at : ℕ). cellOf 8 (drop at (start .args .s .now))) (c .before .cell-offset .ensures)
     ∙ sym (cell-read controller (start .args .s .now) (start .args .c) (start .pre .1))

@@ -33,7 +33,7 @@ get-requires c κs = search needs
 returns : tie.Need-returns
 unfolding cellOf
 returns c =
-    let args = c .before .before .before .before .before .args in
+    let args = let c : tie.Start = search in c .args in
     let l = args .s .now in
     let at = args .at in
     let word : c .before .word-at .result ≡ be 4 (drop 2 (drop at l)) = c .before .word-at .ensures ∙ ap (be 4) (sym (drop-drop 2 at l)) in

@@ -10,7 +10,9 @@ get-requires : tie.Need-get-requires
 get-requires c κs = search needs
 
 returns : tie.Need-returns
-returns c = c .get .ensures ∙ sym (clock-read controller (c .before .before .args .s .now))
+returns c =
+    let start = let c : tie.Start = search in c in
+    c .get .ensures ∙ sym (clock-read controller (start .args .s .now))
 
 pub clock-spec : {M : Type 1} → statement M
 clock-spec = tie.close (tie.spec get-requires returns)

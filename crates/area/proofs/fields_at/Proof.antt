@@ -12,7 +12,10 @@ fields-requires : tie.Need-fields-requires
 fields-requires c κs = search needs
 
 returns : tie.Need-returns
-returns c = read-of-slot fieldsOf (c .before .before .before .pre .0) (c .before .before .before .pre .1) (c .before .slot-offset .ensures) (c .fields .ensures)
+returns c =
+    let start = let c : tie.Start = search in c in
+    let slot-offset = let c : tie.After-slot-offset = search in c .slot-offset .ensures in
+    read-of-slot fieldsOf (start .pre .0) (start .pre .1) slot-offset (c .fields .ensures)
 
 pub fields-at-spec : {M : Type 1} → statement M
 fields-at-spec = tie.close (tie.spec slot-offset-requires fields-requires returns)

@@ -14,7 +14,10 @@ find-read-requires : tie.Need-find-read-requires
 find-read-requires c κs = search needs
 
 returns : tie.Need-returns
-returns c = read-of-slot (λ (v : SlotRecord). readFound (readEntry (readLog v) (c .before .before .before .args .cell))) (c .before .before .before .pre .0) (c .before .before .before .pre .1) (c .before .slot-offset .ensures) (c .find-read .ensures)
+returns c =
+    let start = let c : tie.Start = search in c in
+    let slot-offset = let c : tie.After-slot-offset = search in c .slot-offset .ensures in
+    read-of-slot (λ (v : SlotRecord). readFound (readEntry (readLog v) (start .args .cell))) (start .pre .0) (start .pre .1) slot-offset (c .find-read .ensures)
 
 pub find-read-spec : {M : Type 1} → statement M
 find-read-spec = tie.close (tie.spec slot-offset-requires find-read-requires returns)

@@ -14,7 +14,10 @@ find-write-requires : tie.Need-find-write-requires
 find-write-requires c κs = search needs
 
 returns : tie.Need-returns
-returns c = read-of-slot (λ (v : SlotRecord). writeFound (writeEntry (writeLog v) (c .before .before .before .args .cell))) (c .before .before .before .pre .0) (c .before .before .before .pre .1) (c .before .slot-offset .ensures) (c .find-write .ensures)
+returns c =
+    let start = let c : tie.Start = search in c in
+    let slot-offset = let c : tie.After-slot-offset = search in c .slot-offset .ensures in
+    read-of-slot (λ (v : SlotRecord). writeFound (writeEntry (writeLog v) (start .args .cell))) (start .pre .0) (start .pre .1) slot-offset (c .find-write .ensures)
 
 pub find-write-spec : {M : Type 1} → statement M
 find-write-spec = tie.close (tie.spec slot-offset-requires find-write-requires returns)

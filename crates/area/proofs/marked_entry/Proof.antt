@@ -16,7 +16,7 @@ outdated-requires c κs = search needs
 returns : tie.Need-returns
 unfolding withMark
 returns c =
-    let args = c .before .before .before .args in
+    let args = let c : tie.Start = search in c .args in
     let mark = c .outdated .ensures ∙ ap (λ (x : Cell). heldByOther (args .i) x or newer (args .start) x) (c .before .cell-at .ensures) in
     λ j. record { cell = args .e .cell; mark = mark j; word = args .e .word }
 

@@ -18,7 +18,9 @@ returns c =
 returns-2 : tie.Need-returns-2
 unfolding _or_ newer
 returns-2 c =
-    let held = sym (c .before .before .held-by-other .ensures) ∙ c .before .if1 .left in
+    let held-by-other = let c : tie.After-held-by-other = search in c .held-by-other .ensures in
+    let if1 = let c : tie.Else1 = search in c .if1 .left in
+    let held = sym held-by-other ∙ if1 in
     rw held
 
 pub outdated-spec : {M : Type 1} → statement M

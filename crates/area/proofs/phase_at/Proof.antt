@@ -16,7 +16,10 @@ shared-slice-read-result c = search needs
 
 returns : tie.Need-returns
 unfolding slotOf
-returns c = first-byte (c .before .before .before .args .s .now) _ ∙ ap (λ (v : SlotRecord). v .phase) (slot-of (c .before .before .before .pre .0) (c .before .before .before .pre .1) (c .before .slot-offset .ensures))
+returns c =
+    let start = let c : tie.Start = search in c in
+    let slot-offset = let c : tie.After-slot-offset = search in c .slot-offset .ensures in
+    first-byte (start .args .s .now) _ ∙ ap (λ (v : SlotRecord). v .phase) (slot-of (start .pre .0) (start .pre .1) slot-offset)
 
 pub phase-at-spec : {M : Type 1} → statement M
 phase-at-spec = tie.close (tie.spec slot-offset-requires shared-slice-read-result returns)

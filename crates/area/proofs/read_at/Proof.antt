@@ -14,7 +14,10 @@ read-at-requires : tie.Need-read-at-requires
 read-at-requires c κs = search needs
 
 returns : tie.Need-returns
-returns c = read-of-slot (λ (v : SlotRecord). getD (v .reads) (c .before .before .before .args .k) noRead) (c .before .before .before .pre .0) (c .before .before .before .pre .1) (c .before .slot-offset .ensures) (c .read-at .ensures)
+returns c =
+    let start = let c : tie.Start = search in c in
+    let slot-offset = let c : tie.After-slot-offset = search in c .slot-offset .ensures in
+    read-of-slot (λ (v : SlotRecord). getD (v .reads) (start .args .k) noRead) (start .pre .0) (start .pre .1) slot-offset (c .read-at .ensures)
 
 pub read-at-spec : {M : Type 1} → statement M
 read-at-spec = tie.close (tie.spec slot-offset-requires read-at-requires returns)

@@ -11,7 +11,7 @@ cell-at-requires c κs = search needs
 returns : tie.Need-returns
 unfolding reloaded
 returns c =
-    let args = c .before .before .args in
+    let args = let c : tie.Start = search in c .args in
     λ j. record { cell = args .e .cell; mark = false; word = c .cell-at .ensures j .word }
 
 pub reloaded-entry-spec : {M : Type 1} → statement M

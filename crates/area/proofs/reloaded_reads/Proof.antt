@@ -25,82 +25,111 @@ fields-at-requires c κs = ((c .before .pre .0), (c .before .pre .1))
 
 cast-n : tie.Need-cast-n Inv-loop μ-loop
 cast-n c =
-    let S = stateIn (c .before .before .before .args .s .now) in
-    let v = lay (slotAt S (c .before .before .before .args .i)) in
-    let count = ap (λ (u : SlotRecord). u .readcount) (c .before .fields-at .ensures) in
-    let logged = logged-of (c .before .before .before .args .s .now) (c .before .before .before .pre .0) (c .before .before .before .args .i) (c .before .before .before .pre .1) v refl in
+    let start = let c : tie.Start Inv-loop μ-loop = search in c in
+    let fields-at = let c : tie.After-fields-at Inv-loop μ-loop = search in c .fields-at .ensures in
+    let S = stateIn (start .args .s .now) in
+    let v = lay (slotAt S (start .args .i)) in
+    let count = ap (λ (u : SlotRecord). u .readcount) fields-at in
+    let logged = logged-of (start .args .s .now) (start .pre .0) (start .args .i) (start .pre .1) v refl in
     omega arith
 
 loop-holds : tie.Need-loop-holds Inv-loop μ-loop
-loop-holds c = (omega arith, ap (λ (u : SlotRecord). u .reads) (c .before .before .fields-at .ensures))
+loop-holds c =
+    let fields-at = let c : tie.After-fields-at Inv-loop μ-loop = search in c .fields-at .ensures in
+    (omega arith, ap (λ (u : SlotRecord). u .reads) fields-at)
 
 read-at-requires : tie.Need-read-at-requires Inv-loop μ-loop
 read-at-requires c κs =
-    let S = stateIn (c .before .before .before .before .before .before .args .s .now) in
-    let v = lay (slotAt S (c .before .before .before .before .before .before .args .i)) in
-    let count = ap (λ (u : SlotRecord). u .readcount) (c .before .before .before .before .fields-at .ensures) in
-    let logged = logged-of (c .before .before .before .before .before .before .args .s .now) (c .before .before .before .before .before .before .pre .0) (c .before .before .before .before .before .before .args .i) (c .before .before .before .before .before .before .pre .1) v refl in
-    ((c .before .before .before .before .before .before .pre .0), (c .before .before .before .before .before .before .pre .1), omega arith)
+    let start = let c : tie.Start Inv-loop μ-loop = search in c in
+    let fields-at = let c : tie.After-fields-at Inv-loop μ-loop = search in c .fields-at .ensures in
+    let S = stateIn (start .args .s .now) in
+    let v = lay (slotAt S (start .args .i)) in
+    let count = ap (λ (u : SlotRecord). u .readcount) fields-at in
+    let logged = logged-of (start .args .s .now) (start .pre .0) (start .args .i) (start .pre .1) v refl in
+    ((start .pre .0), (start .pre .1), omega arith)
 
 reloaded-entry-requires : tie.Need-reloaded-entry-requires Inv-loop μ-loop
 reloaded-entry-requires c κs =
-    let S = stateIn (c .before .before .before .before .before .before .before .args .s .now) in
-    let v = lay (slotAt S (c .before .before .before .before .before .before .before .args .i)) in
-    let count = ap (λ (u : SlotRecord). u .readcount) (c .before .before .before .before .before .fields-at .ensures) in
-    let logged = logged-of (c .before .before .before .before .before .before .before .args .s .now) (c .before .before .before .before .before .before .before .pre .0) (c .before .before .before .before .before .before .before .args .i) (c .before .before .before .before .before .before .before .pre .1) v refl in
-    ((c .before .before .before .before .before .before .before .pre .0), rw (c .read-at .ensures) (logged .inside (c .before .before .loop .k) (omega arith)))
+    let start = let c : tie.Start Inv-loop μ-loop = search in c in
+    let fields-at = let c : tie.After-fields-at Inv-loop μ-loop = search in c .fields-at .ensures in
+    let loop = let c : tie.At-loop Inv-loop μ-loop = search in c .loop .k in
+    let S = stateIn (start .args .s .now) in
+    let v = lay (slotAt S (start .args .i)) in
+    let count = ap (λ (u : SlotRecord). u .readcount) fields-at in
+    let logged = logged-of (start .args .s .now) (start .pre .0) (start .args .i) (start .pre .1) v refl in
+    ((start .pre .0), rw (c .read-at .ensures) (logged .inside loop (omega arith)))
 
 mul-log : tie.Need-mul-log Inv-loop μ-loop
 mul-log c =
-    let S = stateIn (c .before .before .before .before .before .before .before .before .args .s .now) in
-    let v = lay (slotAt S (c .before .before .before .before .before .before .before .before .args .i)) in
-    let count = ap (λ (u : SlotRecord). u .readcount) (c .before .before .before .before .before .before .fields-at .ensures) in
-    let logged = logged-of (c .before .before .before .before .before .before .before .before .args .s .now) (c .before .before .before .before .before .before .before .before .pre .0) (c .before .before .before .before .before .before .before .before .args .i) (c .before .before .before .before .before .before .before .before .pre .1) v refl in
+    let start = let c : tie.Start Inv-loop μ-loop = search in c in
+    let fields-at = let c : tie.After-fields-at Inv-loop μ-loop = search in c .fields-at .ensures in
+    let S = stateIn (start .args .s .now) in
+    let v = lay (slotAt S (start .args .i)) in
+    let count = ap (λ (u : SlotRecord). u .readcount) fields-at in
+    let logged = logged-of (start .args .s .now) (start .pre .0) (start .args .i) (start .pre .1) v refl in
     omega arith
 
 array-set-from-log : tie.Need-array-set-from-log Inv-loop μ-loop
 array-set-from-log c =
-    let S = stateIn (c .before .before .before .before .before .before .before .before .args .s .now) in
-    let v = lay (slotAt S (c .before .before .before .before .before .before .before .before .args .i)) in
-    let count = ap (λ (u : SlotRecord). u .readcount) (c .before .before .before .before .before .before .fields-at .ensures) in
-    let logged = logged-of (c .before .before .before .before .before .before .before .before .args .s .now) (c .before .before .before .before .before .before .before .before .pre .0) (c .before .before .before .before .before .before .before .before .args .i) (c .before .before .before .before .before .before .before .before .pre .1) v refl in
-    let size = filled-length (reloaded S) noRead (v .reads) (c .before .before .before .loop .k) (omega arith) (omega arith) in
-    let same = ap length (c .before .before .before .loop .inv .1) in
+    let start = let c : tie.Start Inv-loop μ-loop = search in c in
+    let fields-at = let c : tie.After-fields-at Inv-loop μ-loop = search in c .fields-at .ensures in
+    let loop-k = let c : tie.At-loop Inv-loop μ-loop = search in c .loop .k in
+    let loop-inv = let c : tie.At-loop Inv-loop μ-loop = search in c .loop .inv in
+    let S = stateIn (start .args .s .now) in
+    let v = lay (slotAt S (start .args .i)) in
+    let count = ap (λ (u : SlotRecord). u .readcount) fields-at in
+    let logged = logged-of (start .args .s .now) (start .pre .0) (start .args .i) (start .pre .1) v refl in
+    let size = filled-length (reloaded S) noRead (v .reads) loop-k (omega arith) (omega arith) in
+    let same = ap length (loop-inv .1) in
     omega arith
 
 add-k : tie.Need-add-k Inv-loop μ-loop
 add-k c =
-    let S = stateIn (c .before .before .before .before .before .before .before .before .args .s .now) in
-    let v = lay (slotAt S (c .before .before .before .before .before .before .before .before .args .i)) in
-    let count = ap (λ (u : SlotRecord). u .readcount) (c .before .before .before .before .before .before .fields-at .ensures) in
-    let logged = logged-of (c .before .before .before .before .before .before .before .before .args .s .now) (c .before .before .before .before .before .before .before .before .pre .0) (c .before .before .before .before .before .before .before .before .args .i) (c .before .before .before .before .before .before .before .before .pre .1) v refl in
+    let start = let c : tie.Start Inv-loop μ-loop = search in c in
+    let fields-at = let c : tie.After-fields-at Inv-loop μ-loop = search in c .fields-at .ensures in
+    let S = stateIn (start .args .s .now) in
+    let v = lay (slotAt S (start .args .i)) in
+    let count = ap (λ (u : SlotRecord). u .readcount) fields-at in
+    let logged = logged-of (start .args .s .now) (start .pre .0) (start .args .i) (start .pre .1) v refl in
     omega arith
 
 loop-less : tie.Need-loop-less Inv-loop μ-loop
 loop-less c =
-    let S = stateIn (c .before .before .before .before .before .before .before .before .args .s .now) in
-    let v = lay (slotAt S (c .before .before .before .before .before .before .before .before .args .i)) in
-    let count = ap (λ (u : SlotRecord). u .readcount) (c .before .before .before .before .before .before .fields-at .ensures) in
-    let logged = logged-of (c .before .before .before .before .before .before .before .before .args .s .now) (c .before .before .before .before .before .before .before .before .pre .0) (c .before .before .before .before .before .before .before .before .args .i) (c .before .before .before .before .before .before .before .before .pre .1) v refl in
+    let start = let c : tie.Start Inv-loop μ-loop = search in c in
+    let fields-at = let c : tie.After-fields-at Inv-loop μ-loop = search in c .fields-at .ensures in
+    let S = stateIn (start .args .s .now) in
+    let v = lay (slotAt S (start .args .i)) in
+    let count = ap (λ (u : SlotRecord). u .readcount) fields-at in
+    let logged = logged-of (start .args .s .now) (start .pre .0) (start .args .i) (start .pre .1) v refl in
     omega arith
 
 loop-again : tie.Need-loop-again Inv-loop μ-loop
 loop-again c =
-    let S = stateIn (c .before .before .before .before .before .before .before .before .args .s .now) in
-    let v = lay (slotAt S (c .before .before .before .before .before .before .before .before .args .i)) in
-    let count = ap (λ (u : SlotRecord). u .readcount) (c .before .before .before .before .before .before .fields-at .ensures) in
-    let logged = logged-of (c .before .before .before .before .before .before .before .before .args .s .now) (c .before .before .before .before .before .before .before .before .pre .0) (c .before .before .before .before .before .before .before .before .args .i) (c .before .before .before .before .before .before .before .before .pre .1) v refl in
-    let new = (c .reloaded-entry .ensures) ∙ ap (reloaded S) (c .before .read-at .ensures) in
-    (omega arith, filled-next (reloaded S) noRead (v .reads) (c .before .before .before .loop .log) (c .reloaded-entry .result) (c .before .before .before .loop .k) (omega arith) (omega arith) (c .before .before .before .loop .inv .1) new)
+    let start = let c : tie.Start Inv-loop μ-loop = search in c in
+    let fields-at = let c : tie.After-fields-at Inv-loop μ-loop = search in c .fields-at .ensures in
+    let loop-log = let c : tie.At-loop Inv-loop μ-loop = search in c .loop .log in
+    let loop-k = let c : tie.At-loop Inv-loop μ-loop = search in c .loop .k in
+    let loop-inv = let c : tie.At-loop Inv-loop μ-loop = search in c .loop .inv in
+    let read-at = let c : tie.After-read-at Inv-loop μ-loop = search in c .read-at .ensures in
+    let S = stateIn (start .args .s .now) in
+    let v = lay (slotAt S (start .args .i)) in
+    let count = ap (λ (u : SlotRecord). u .readcount) fields-at in
+    let logged = logged-of (start .args .s .now) (start .pre .0) (start .args .i) (start .pre .1) v refl in
+    let new = (c .reloaded-entry .ensures) ∙ ap (reloaded S) read-at in
+    (omega arith, filled-next (reloaded S) noRead (v .reads) loop-log (c .reloaded-entry .result) loop-k (omega arith) (omega arith) (loop-inv .1) new)
 
 returns : tie.Need-returns Inv-loop μ-loop
 returns c =
-    let S = stateIn (c .before .before .before .before .before .before .args .s .now) in
-    let v = lay (slotAt S (c .before .before .before .before .before .before .args .i)) in
-    let count = ap (λ (u : SlotRecord). u .readcount) (c .before .before .before .before .fields-at .ensures) in
-    let logged = logged-of (c .before .before .before .before .before .before .args .s .now) (c .before .before .before .before .before .before .pre .0) (c .before .before .before .before .before .before .args .i) (c .before .before .before .before .before .before .pre .1) v refl in
-    let all : (c .before .loop .k) ≡ v .readcount = omega arith in
-    (c .before .loop .inv .1) ∙ ap (filled (reloaded S) noRead (v .reads)) all
+    let start = let c : tie.Start Inv-loop μ-loop = search in c in
+    let fields-at = let c : tie.After-fields-at Inv-loop μ-loop = search in c .fields-at .ensures in
+    let loop-k = let c : tie.At-loop Inv-loop μ-loop = search in c .loop .k in
+    let loop-inv = let c : tie.At-loop Inv-loop μ-loop = search in c .loop .inv in
+    let S = stateIn (start .args .s .now) in
+    let v = lay (slotAt S (start .args .i)) in
+    let count = ap (λ (u : SlotRecord). u .readcount) fields-at in
+    let logged = logged-of (start .args .s .now) (start .pre .0) (start .args .i) (start .pre .1) v refl in
+    let all : loop-k ≡ v .readcount = omega arith in
+    (loop-inv .1) ∙ ap (filled (reloaded S) noRead (v .reads)) all
 
 pub reloaded-reads-spec : {M : Type 1} → statement M
 reloaded-reads-spec =

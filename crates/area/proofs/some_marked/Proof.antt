@@ -13,7 +13,10 @@ some-marked-requires : tie.Need-some-marked-requires
 some-marked-requires c κs = search needs
 
 returns : tie.Need-returns
-returns c = read-of-slot (λ (v : SlotRecord). someMarked (readLog v)) (c .before .before .before .pre .0) (c .before .before .before .pre .1) (c .before .slot-offset .ensures) (c .some-marked .ensures)
+returns c =
+    let start = let c : tie.Start = search in c in
+    let slot-offset = let c : tie.After-slot-offset = search in c .slot-offset .ensures in
+    read-of-slot (λ (v : SlotRecord). someMarked (readLog v)) (start .pre .0) (start .pre .1) slot-offset (c .some-marked .ensures)
 
 pub some-marked-spec : {M : Type 1} → statement M
 some-marked-spec = tie.close (tie.spec slot-offset-requires some-marked-requires returns)

@@ -12,7 +12,7 @@ get-requires c κs = search needs
 cast-result : tie.Need-cast-result
 cast-result c =
     let known = c .before .shared-slice-known in
-    let args = c .before .before .args in
+    let args = let c : tie.Start = search in c .args in
     let get = c .get in
     omega (arith, be-bound 4 (drop (args .at) (args .s .now)) (bytes-drop (args .at) (args .s .now) (λ i. omega (arith, known .given i))), get .ensures)
 

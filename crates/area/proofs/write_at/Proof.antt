@@ -14,7 +14,10 @@ write-at-requires : tie.Need-write-at-requires
 write-at-requires c κs = search needs
 
 returns : tie.Need-returns
-returns c = read-of-slot (λ (v : SlotRecord). getD (v .writes) (c .before .before .before .args .k) noWrite) (c .before .before .before .pre .0) (c .before .before .before .pre .1) (c .before .slot-offset .ensures) (c .write-at .ensures)
+returns c =
+    let start = let c : tie.Start = search in c in
+    let slot-offset = let c : tie.After-slot-offset = search in c .slot-offset .ensures in
+    read-of-slot (λ (v : SlotRecord). getD (v .writes) (start .args .k) noWrite) (start .pre .0) (start .pre .1) slot-offset (c .write-at .ensures)
 
 pub write-at-spec : {M : Type 1} → statement M
 write-at-spec = tie.close (tie.spec slot-offset-requires write-at-requires returns)

@@ -12,7 +12,10 @@ with-writes-requires : tie.Need-with-writes-requires
 with-writes-requires c κs = search needs
 
 returns : tie.Need-returns
-returns c = read-of-slot withoutReads (c .before .before .before .pre .0) (c .before .before .before .pre .1) (c .before .slot-offset .ensures) (c .with-writes .ensures)
+returns c =
+    let start = let c : tie.Start = search in c in
+    let slot-offset = let c : tie.After-slot-offset = search in c .slot-offset .ensures in
+    read-of-slot withoutReads (start .pre .0) (start .pre .1) slot-offset (c .with-writes .ensures)
 
 pub writes-at-spec : {M : Type 1} → statement M
 writes-at-spec = tie.close (tie.spec slot-offset-requires with-writes-requires returns)

@@ -8,9 +8,9 @@ use Rattle.slot.specs.Logic.{all}
 use Rattle.rules.specs.State.{noCell}
 use Rattle.rules.specs.Area.{describedCells}
 use Rattle.wire.proofs.Laws.Field.{be-bound, bytes-drop}
-use Rattle.area.specs.Laid.{legalCell}
-use Rattle.area.proofs.Laid.{described-length}
-use Rattle.area.proofs.Scan.{all-failed, all-passed, all-tested}
+use Rattle.fresh.specs.Parts.{legalCell}
+use Rattle.fresh.proofs.Parts.{described-length}
+use Rattle.fresh.proofs.Tested.{all-failed, all-passed, all-tested}
 use Rattle.sheet.specs.Apart.{descriptionsLegal}
 use Rattle.sheet.proofs.Reading.{described-test}
 use Rattle.sheet.proofs.all_legal.Statement.{statement}

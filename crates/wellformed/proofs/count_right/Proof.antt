@@ -2,7 +2,7 @@
 use mathlib.Core.Path.{refl}
 use borrow.Author.Tests.{le-leb, lt-leb}
 use Rattle.rules.specs.LogsRight.{cellCountRight}
-use Rattle.wellformed.proofs.Chains.{pass, stop}
+use Rattle.slotright.proofs.Chains.{pass, stop}
 use Rattle.wellformed.proofs.count_right.Statement.{statement}
 use Rattle.wellformed.proofs.count_right.Tie as tie
 

@@ -1,8 +1,8 @@
 -- The two clauses, in their order.
 use mathlib.Core.Path.{sym, _∙_}
 use borrow.Author.Needs.{needs}
-use Rattle.wellformed.specs.Frame.{partsRight}
-use Rattle.wellformed.proofs.Chains.{pass, stop}
+use Rattle.slotright.proofs.Chains.{pass, stop}
+use Rattle.wellformed.specs.AreaParts.{partsRight}
 use Rattle.wellformed.proofs.parts_right.Statement.{statement}
 use Rattle.wellformed.proofs.parts_right.Tie as tie
 
@@ -14,7 +14,10 @@ stamps-apart-requires c κs = search needs
 
 returns : tie.Need-returns
 unfolding partsRight
-returns c = pass _ _ _ (sym (c .before .before .slots-right .ensures) ∙ c .before .if1 .taken) (c .stamps-apart .ensures)
+returns c =
+    let slots-right = let c : tie.After-slots-right = search in c .slots-right .ensures in
+    let if1 = let c : tie.Then1 = search in c .if1 .taken in
+    pass _ _ _ (sym slots-right ∙ if1) (c .stamps-apart .ensures)
 
 returns-2 : tie.Need-returns-2
 unfolding partsRight

@@ -7,10 +7,10 @@ use Rattle.slot.specs.Logic.{_and_}
 use Rattle.slot.proofs.Logic.{and-left}
 use Rattle.rules.specs.Model.{controller}
 use Rattle.rules.specs.AreaRight.{areaHoldersRight}
-use Rattle.wellformed.specs.Frame.{cellsRight, partsRight}
-use Rattle.wellformed.proofs.Chains.{pass, stop, passes, fails}
+use Rattle.slotright.proofs.Chains.{pass, stop, passes, fails}
+use Rattle.wellformed.specs.AreaParts.{cellsRight, partsRight}
 use Rattle.wellformed.proofs.Places.{framed}
-use Rattle.wellformed.proofs.SlotLaws.{in-order}
+use Rattle.wellformed.proofs.AreaLaws.{in-order}
 use Rattle.wellformed.proofs.well_formed.Statement.{statement}
 use Rattle.wellformed.proofs.well_formed.Tie as tie
 
@@ -19,57 +19,74 @@ header-right-requires c κs = search needs
 
 returns : tie.Need-returns
 returns c =
-    let args = c .before .before .before .args in
+    let args = let c : tie.Start = search in c .args in
     stop _ _ _ (fails (c .before .header-right .ensures) (c .if1 .taken)) refl ∙ in-order (args .s .now)
 
 shared-slice-read-index : tie.Need-shared-slice-read-index
 shared-slice-read-index c =
-    let args = c .before .before .before .before .args in
-    let f = framed _ (args .s .now) refl (passes (c .before .before .header-right .ensures) (c .before .if1 .left)) in omega arith
+    let header-right = let c : tie.After-header-right = search in c .header-right .ensures in
+    let if1 = let c : tie.Else1 = search in c .if1 .left in
+    let args = let c : tie.Start = search in c .args in
+    let f = framed _ (args .s .now) refl (passes header-right if1) in omega arith
 
 index-requires : tie.Need-index-requires
 index-requires c κs = search needs
 
 get-requires : tie.Need-get-requires
 get-requires c κs =
-    let args = c .before .before .before .before .before .args in
-    let f = framed _ (args .s .now) refl (passes (c .before .before .before .header-right .ensures) (c .before .before .if1 .left)) in omega arith
+    let header-right = let c : tie.After-header-right = search in c .header-right .ensures in
+    let if1 = let c : tie.Else1 = search in c .if1 .left in
+    let args = let c : tie.Start = search in c .args in
+    let f = framed _ (args .s .now) refl (passes header-right if1) in omega arith
 
 parts-right-requires : tie.Need-parts-right-requires
 parts-right-requires c κs =
-    let args = c .before .before .before .before .before .before .args in
-    let header = passes (c .before .before .before .before .header-right .ensures) (c .before .before .before .if1 .left) in
-    framed _ (args .s .now) (c .before .index .ensures .0) header
+    let header-right = let c : tie.After-header-right = search in c .header-right .ensures in
+    let if1 = let c : tie.Else1 = search in c .if1 .left in
+    let index = let c : tie.After-index = search in c .index .ensures in
+    let args = let c : tie.Start = search in c .args in
+    let header = passes header-right if1 in
+    framed _ (args .s .now) (index .0) header
 
 returns-2 : tie.Need-returns-2
 returns-2 c =
-    let args = c .before .before .before .before .before .before .before .before .args in
-    let get = c .before .before .get in
+    let header-right = let c : tie.After-header-right = search in c .header-right .ensures in
+    let if1 = let c : tie.Else1 = search in c .if1 .left in
+    let parts-right = let c : tie.After-parts-right = search in c .parts-right .ensures in
+    let args = let c : tie.Start = search in c .args in
+    let get = let c : tie.After-get = search in c .get in
     let l = args .s .now in
-    let header = passes (c .before .before .before .before .before .before .header-right .ensures) (c .before .before .before .before .before .if1 .left) in
+    let header = passes header-right if1 in
     pass _ _ _ header
-    (stop _ _ _ (fails (c .before .parts-right .ensures ∙ ap (λ (k : ℕ). partsRight k l) (get .ensures)) (c .if2 .taken)) refl)
+    (stop _ _ _ (fails (parts-right ∙ ap (λ (k : ℕ). partsRight k l) (get .ensures)) (c .if2 .taken)) refl)
     ∙ in-order l
 
 cells-held-requires : tie.Need-cells-held-requires
 unfolding partsRight
 cells-held-requires c κs =
-    let args = c .before .before .before .before .before .before .before .before .args in
-    let get = c .before .before .get in
-    let index = c .before .before .before .index in
+    let header-right = let c : tie.After-header-right = search in c .header-right .ensures in
+    let if1 = let c : tie.Else1 = search in c .if1 .left in
+    let parts-right = let c : tie.After-parts-right = search in c .parts-right .ensures in
+    let args = let c : tie.Start = search in c .args in
+    let get = let c : tie.After-get = search in c .get in
+    let index = let c : tie.After-index = search in c .index in
     let l = args .s .now in
-    let header = passes (c .before .before .before .before .before .before .header-right .ensures) (c .before .before .before .before .before .if1 .left) in (
+    let header = passes header-right if1 in (
       framed _ l (index .ensures .0) header,
-      and-left _ _ (passes (c .before .parts-right .ensures ∙ ap (λ (k : ℕ). partsRight k l) (get .ensures)) (c .if2 .left)),
+      and-left _ _ (passes (parts-right ∙ ap (λ (k : ℕ). partsRight k l) (get .ensures)) (c .if2 .left)),
     )
 
 returns-3 : tie.Need-returns-3
 returns-3 c =
-    let args = c .before .before .before .before .before .before .before .before .before .args in
-    let get = c .before .before .before .get in
+    let header-right = let c : tie.After-header-right = search in c .header-right .ensures in
+    let if1 = let c : tie.Else1 = search in c .if1 .left in
+    let parts-right = let c : tie.After-parts-right = search in c .parts-right .ensures in
+    let if2 = let c : tie.Else2 = search in c .if2 .left in
+    let args = let c : tie.Start = search in c .args in
+    let get = let c : tie.After-get = search in c .get in
     let l = args .s .now in
-    let header = passes (c .before .before .before .before .before .before .before .header-right .ensures) (c .before .before .before .before .before .before .if1 .left) in
-    let parts = passes (c .before .before .parts-right .ensures ∙ ap (λ (k : ℕ). partsRight k l) (get .ensures)) (c .before .if2 .left) in
+    let header = passes header-right if1 in
+    let parts = passes (parts-right ∙ ap (λ (k : ℕ). partsRight k l) (get .ensures)) if2 in
     pass _ _ _ header
     (pass _ _ _ parts
     (c .cells-held .ensures ∙ ap (λ (k : ℕ). cellsRight k l and areaHoldersRight controller l) (get .ensures)))

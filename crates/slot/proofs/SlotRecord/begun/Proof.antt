@@ -3,11 +3,11 @@ use borrow.Author.Needs.{needs}
 use Rattle.slot.proofs.SlotRecord.begun.Statement.{statement}
 use Rattle.slot.proofs.SlotRecord.begun.Tie as tie
 
-empty-requires : tie.Need-empty-requires
-empty-requires c κs = search needs
+idled-requires : tie.Need-idled-requires
+idled-requires c κs = search needs
 
 returns : tie.Need-returns
-returns c = rw (c .empty .ensures)
+returns c = rw (c .idled .ensures)
 
 pub begun-spec : {M : Type 1} → statement M
-begun-spec = tie.close (tie.spec empty-requires returns)
+begun-spec = tie.close (tie.spec idled-requires returns)

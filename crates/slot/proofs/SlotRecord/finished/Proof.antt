@@ -5,16 +5,16 @@ use Rattle.slot.specs.Operations.{finished}
 use Rattle.slot.proofs.SlotRecord.finished.Statement.{statement}
 use Rattle.slot.proofs.SlotRecord.finished.Tie as tie
 
-empty-requires : tie.Need-empty-requires
-empty-requires c κs = search needs
+idled-requires : tie.Need-idled-requires
+idled-requires c κs = search needs
 
 returns : tie.Need-returns
 unfolding finished
-returns c = simp (eq-eqb _ _ (c .before .if1 .taken)) (c .empty .ensures)
+returns c = simp (eq-eqb _ _ (c .before .if1 .taken)) (c .idled .ensures)
 
 returns-2 : tie.Need-returns-2
 unfolding finished
 returns-2 c = simp (ne-eqb _ _ (c .if1 .left))
 
 pub finished-spec : {M : Type 1} → statement M
-finished-spec = tie.close (tie.spec empty-requires returns returns-2)
+finished-spec = tie.close (tie.spec idled-requires returns returns-2)

@@ -12,12 +12,12 @@ returns : tie.Need-returns
 unfolding publishedOne
 returns c = simp (lt-ltb _ _ (c .if1 .taken))
 
-empty-requires : tie.Need-empty-requires
-empty-requires c κs = search needs
+idled-requires : tie.Need-idled-requires
+idled-requires c κs = search needs
 
 returns-2 : tie.Need-returns-2
 unfolding publishedOne
-returns-2 c = simp (le-ltb _ _ (c .before .if1 .left)) (c .empty .ensures)
+returns-2 c = simp (le-ltb _ _ (c .before .if1 .left)) (c .idled .ensures)
 
 pub published-one-spec : {M : Type 1} → statement M
-published-one-spec = tie.close (tie.spec add-next returns empty-requires returns-2)
+published-one-spec = tie.close (tie.spec add-next returns idled-requires returns-2)

@@ -24,7 +24,9 @@ cast-count : tie.Need-cast-count Inv-loop μ-loop
 cast-count c = search needs
 
 loop-holds : tie.Need-loop-holds Inv-loop μ-loop
-loop-holds c = (simp length-map at (c .before .before .good .0 .1 .1 .1 .1 .1 .1 .1 .1 .1 .0 .1 .0 .1), refl)
+loop-holds c =
+    let start = let c : tie.Start Inv-loop μ-loop = search in c in
+    (simp length-map at (start .good .0 .1 .1 .1 .1 .1 .1 .1 .1 .1 .0 .1 .0 .1), refl)
 
 mul-if2 : tie.Need-mul-if2 Inv-loop μ-loop
 mul-if2 c = omega arith
@@ -35,8 +37,8 @@ element-copy-out-if2 c = omega arith
 returns : tie.Need-returns Inv-loop μ-loop
 unfolding someMarked
 returns c =
-    let args = c .before .before .before .before .before .before .args in
-    let loop = c .before .before .before .loop in
+    let args = let c : tie.Start Inv-loop μ-loop = search in c .args in
+    let loop = let c : tie.At-loop Inv-loop μ-loop = search in c .loop in
     sym (of-some _ _ _
     (search-found _ noRead (args .self .reads) (args .self .readcount) (loop .i) (loop .inv .1)
     (ltb-true _ _ (c .before .if1 .taken)) (omega arith) (c .if2 .taken)))
@@ -49,8 +51,8 @@ loop-less c = omega arith
 
 loop-again : tie.Need-loop-again Inv-loop μ-loop
 loop-again c =
-    let args = c .before .before .before .before .before .before .args in
-    let loop = c .before .before .before .loop in (
+    let args = let c : tie.Start Inv-loop μ-loop = search in c .args in
+    let loop = let c : tie.At-loop Inv-loop μ-loop = search in c .loop in (
       loop .inv .0,
       search-next _ noRead (args .self .reads) (args .self .readcount) (loop .i) (loop .inv .1)
           (ltb-true _ _ (c .before .if1 .taken)) (omega arith) (c .if2 .left),
@@ -59,8 +61,8 @@ loop-again c =
 returns-2 : tie.Need-returns-2 Inv-loop μ-loop
 unfolding someMarked
 returns-2 c =
-    let args = c .before .before .before .before .before .args in
-    let loop = c .before .before .loop in
+    let args = let c : tie.Start Inv-loop μ-loop = search in c .args in
+    let loop = let c : tie.At-loop Inv-loop μ-loop = search in c .loop in
     sym (of-none _ _
     (search-end _ noRead (args .self .reads) (args .self .readcount) (loop .i) (loop .inv .1)
     (rw length-take (omega (arith, ltb-false)))))
@@ -68,7 +70,7 @@ returns-2 c =
 returns-3 : tie.Need-returns-3 Inv-loop μ-loop
 unfolding someMarked
 returns-3 c =
-    let args = c .before .before .before .before .args in
+    let args = let c : tie.Start Inv-loop μ-loop = search in c .args in
     let loop = c .before .loop in
     sym (of-none _ _
     (search-end _ noRead (args .self .reads) (args .self .readcount) (loop .i) (loop .inv .1)

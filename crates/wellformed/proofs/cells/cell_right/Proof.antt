@@ -2,7 +2,7 @@
 use mathlib.Core.Path.{refl, _∙_}
 use borrow.Author.Needs.{needs}
 use borrow.Author.Tests.{eq-eqb, ne-eqb, le-leb, lt-leb}
-use Rattle.wellformed.proofs.Chains.{pass, stop}
+use Rattle.slotright.proofs.Chains.{pass, stop}
 use Rattle.wellformed.proofs.Places.{cell-places}
 use Rattle.wellformed.proofs.cells.cell_right.Statement.{statement}
 use Rattle.wellformed.proofs.cells.cell_right.Tie as tie
@@ -15,7 +15,7 @@ shared-slice-read-if1 c = search needs
 
 returns : tie.Need-returns
 returns c =
-    let args = c .before .before .before .args in
+    let args = let c : tie.Start = search in c .args in
     stop _ _ _ (ne-eqb _ _ (c .if1 .taken)) refl ∙ cell-places (args .clock) (args .due) (args .at) (args .s .now)
 
 add-get : tie.Need-add-get
@@ -26,9 +26,11 @@ get-requires c κs = search needs
 
 returns-2 : tie.Need-returns-2
 returns-2 c =
-    let args = c .before .before .before .before .before .args in
-    let get = c .before .get in
-    pass _ _ _ (eq-eqb _ _ (c .before .before .if1 .left)) (stop _ _ _ (lt-leb _ _ (rw (get .ensures) at (c .if2 .taken))) refl)
+    let if1 = let c : tie.Else1 = search in c .if1 .left in
+    let get′ = let c : tie.After-get = search in c .get in
+    let args = let c : tie.Start = search in c .args in
+    let get = get′ in
+    pass _ _ _ (eq-eqb _ _ if1) (stop _ _ _ (lt-leb _ _ (rw (get .ensures) at (c .if2 .taken))) refl)
     ∙ cell-places (args .clock) (args .due) (args .at) (args .s .now)
 
 shared-slice-read-legal-at : tie.Need-shared-slice-read-legal-at
@@ -42,10 +44,10 @@ legal-at-requires c κs = search needs
 
 returns-3 : tie.Need-returns-3
 returns-3 c =
-    let args = c .before .before .before .before .before .before .before .args in
-    let get = c .before .before .before .get in
-    let if1 = c .before .before .before .before .if1 .left in
-    let if2 = c .before .before .if2 .left in
+    let args = let c : tie.Start = search in c .args in
+    let get = let c : tie.After-get = search in c .get in
+    let if1 = let c : tie.Else1 = search in c .if1 .left in
+    let if2 = let c : tie.Else2 = search in c .if2 .left in
     pass _ _ _ (eq-eqb _ _ if1) (pass _ _ _ (le-leb _ _ (rw (get .ensures) at if2)) (c .legal-at .ensures))
     ∙ cell-places (args .clock) (args .due) (args .at) (args .s .now)
 

@@ -7,8 +7,8 @@ use native.Mathlib.Omega.{arith}
 use lib.ListN.{drop, getD}
 use Rattle.slot.specs.Logic.{every}
 use Rattle.rules.specs.Layout.{cellOf}
+use Rattle.slotright.proofs.Chains.{passes, fails, every-start, every-next, every-no, every-yes}
 use Rattle.wellformed.specs.Claims.{cellDue}
-use Rattle.wellformed.proofs.Chains.{passes, fails, every-start, every-next, every-no, every-yes}
 use Rattle.wellformed.proofs.cells.cells_right.Statement.{statement}
 use Rattle.wellformed.proofs.cells.cells_right.Tie as tie
 
@@ -38,8 +38,8 @@ cell-right-requires c κs = omega arith
 
 returns : tie.Need-returns Inv-loop μ-loop
 returns c =
-    let args = c .before .before .before .before .before .before .before .args in
-    let loop = c .before .before .before .before .loop in
+    let args = let c : tie.Start Inv-loop μ-loop = search in c .args in
+    let loop = let c : tie.At-loop Inv-loop μ-loop = search in c .loop in
     every-no (args .n) (right (args .clock) (args .due .now) (args .s .now)) (loop .c) (omega arith) (fails (c .before .cell-right .ensures) (c .if1 .taken))
 
 add-c : tie.Need-add-c Inv-loop μ-loop
@@ -50,13 +50,13 @@ loop-less c = omega arith
 
 loop-again : tie.Need-loop-again Inv-loop μ-loop
 loop-again c =
-    let args = c .before .before .before .before .before .before .before .args in
-    let loop = c .before .before .before .before .loop in
+    let args = let c : tie.Start Inv-loop μ-loop = search in c .args in
+    let loop = let c : tie.At-loop Inv-loop μ-loop = search in c .loop in
     (omega arith, every-next (right (args .clock) (args .due .now) (args .s .now)) (loop .c) (loop .inv .1) (passes (c .before .cell-right .ensures) (c .if1 .left)))
 
 returns-2 : tie.Need-returns-2 Inv-loop μ-loop
 returns-2 c =
-    let args = c .before .before .before .before .args in
+    let args = let c : tie.Start Inv-loop μ-loop = search in c .args in
     let loop = c .before .loop in
     every-yes (args .n) (right (args .clock) (args .due .now) (args .s .now)) (loop .c) (omega arith) (loop .inv .1)
 

@@ -5,7 +5,7 @@ use native.Mathlib.Omega.{arith}
 use lib.ListN.{length, getD-replicate}
 use Rattle.wellformed.specs.Claims.{cellsDue}
 use Rattle.wellformed.proofs.Places.{own-frame}
-use Rattle.wellformed.proofs.SlotLaws.{slot-right-at}
+use Rattle.wellformed.proofs.AreaLaws.{slot-right-at}
 use Rattle.wellformed.proofs.Turn.{Passed, none-passed, turn-wrong, turn-right, all-passed}
 use Rattle.wellformed.proofs.holders.cells_held.Statement.{statement}
 use Rattle.wellformed.proofs.holders.cells_held.Tie as tie
@@ -26,16 +26,18 @@ cast-slot-place : tie.Need-cast-slot-place Inv-loop μ-loop
 cast-slot-place c = omega arith
 
 slot-place-requires : tie.Need-slot-place-requires Inv-loop μ-loop
-slot-place-requires c κs = (c .before .before .before .pre .0, omega arith)
+slot-place-requires c κs =
+    let start = let c : tie.Start Inv-loop μ-loop = search in c in
+    (start .pre .0, omega arith)
 
 slice-aggregate-claim : tie.Need-slice-aggregate-claim Inv-loop μ-loop
 slice-aggregate-claim c = omega arith
 
 claim-requires : tie.Need-claim-requires Inv-loop μ-loop
 claim-requires c κs =
-    let args = c .before .before .before .before .before .args in
-    let pre = c .before .before .before .before .before .pre in
-    let loop = c .before .before .before .loop in
+    let args = let c : tie.Start Inv-loop μ-loop = search in c .args in
+    let pre = let c : tie.Start Inv-loop μ-loop = search in c .pre in
+    let loop = let c : tie.At-loop Inv-loop μ-loop = search in c .loop in
     let slot-place = c .before .slot-place in (
       own-frame (pre .0),
       slot-right-at (args .n) (args .s .now) (pre .0) (pre .1) (loop .k) (omega arith) (slot-place .result .now) (slot-place .ensures),
@@ -44,11 +46,11 @@ claim-requires c κs =
 
 returns : tie.Need-returns Inv-loop μ-loop
 returns c =
-    let args = c .before .before .before .before .before .before .before .before .args in
-    let pre = c .before .before .before .before .before .before .before .before .pre in
-    let loop = c .before .before .before .before .before .before .loop in
-    let slot-place = c .before .before .before .before .slot-place in
-    let claim = c .before .before .claim in
+    let args = let c : tie.Start Inv-loop μ-loop = search in c .args in
+    let pre = let c : tie.Start Inv-loop μ-loop = search in c .pre in
+    let loop = let c : tie.At-loop Inv-loop μ-loop = search in c .loop in
+    let slot-place = let c : tie.After-slot-place Inv-loop μ-loop = search in c .slot-place in
+    let claim = let c : tie.After-claim Inv-loop μ-loop = search in c .claim in
     turn-wrong (args .s .now) (own-frame (pre .0)) (loop .k) (slot-place .result .now) (slot-place .ensures) _ _ _ (claim .ensures) (omega arith) (c .if1 .taken) _
 
 add-k : tie.Need-add-k Inv-loop μ-loop
@@ -59,11 +61,11 @@ loop-less c = omega arith
 
 loop-again : tie.Need-loop-again Inv-loop μ-loop
 loop-again c =
-    let args = c .before .before .before .before .before .before .before .before .args in
-    let pre = c .before .before .before .before .before .before .before .before .pre in
-    let loop = c .before .before .before .before .before .before .loop in
-    let slot-place = c .before .before .before .before .slot-place in
-    let claim = c .before .before .claim in (
+    let args = let c : tie.Start Inv-loop μ-loop = search in c .args in
+    let pre = let c : tie.Start Inv-loop μ-loop = search in c .pre in
+    let loop = let c : tie.At-loop Inv-loop μ-loop = search in c .loop in
+    let slot-place = let c : tie.After-slot-place Inv-loop μ-loop = search in c .slot-place in
+    let claim = let c : tie.After-claim Inv-loop μ-loop = search in c .claim in (
       omega arith,
       claim .kept .1 .1 .1 .0 ∙ loop .inv .1,
       turn-right (args .s .now) (own-frame (pre .0)) (loop .k) (slot-place .result .now) (slot-place .ensures) _ _ _ (claim .ensures) (c .if1 .left) (loop .inv .2),
@@ -73,13 +75,15 @@ slice-aggregate-cells-right : tie.Need-slice-aggregate-cells-right Inv-loop μ-l
 slice-aggregate-cells-right c = omega arith
 
 cells-right-requires : tie.Need-cells-right-requires Inv-loop μ-loop
-cells-right-requires c κs = (c .before .before .before .before .pre .0, omega arith)
+cells-right-requires c κs =
+    let start = let c : tie.Start Inv-loop μ-loop = search in c in
+    (start .pre .0, omega arith)
 
 returns-2 : tie.Need-returns-2 Inv-loop μ-loop
 returns-2 c =
-    let args = c .before .before .before .before .before .args in
-    let pre = c .before .before .before .before .before .pre in
-    let loop = c .before .before .before .loop in
+    let args = let c : tie.Start Inv-loop μ-loop = search in c .args in
+    let pre = let c : tie.Start Inv-loop μ-loop = search in c .pre in
+    let loop = let c : tie.At-loop Inv-loop μ-loop = search in c .loop in
     let whole : loop .k ≡ 8 = omega arith in
     c .cells-right .ensures
     ∙ ap (cellsDue (args .clock) (loop .due) (args .s .now)) (sym (pre .0 .count))

@@ -24,9 +24,9 @@ index-requires-2 c κs = search needs
 
 claim-part-requires : tie.Need-claim-part-requires
 claim-part-requires c κs =
-    let args = c .before .before .before .before .before .before .before .before .before .before .args in
-    let pre = c .before .before .before .before .before .before .before .before .before .before .pre in
-    let index = c .before .before .before .before .index in (
+    let args = let c : tie.Start = search in c .args in
+    let pre = let c : tie.Start = search in c .pre in
+    let index = let c : tie.After-index = search in c .index in (
       pre .0,
       held-first _ (args .s .now) (pre .0) (args .t .now) (pre .1) (index .result) (index .ensures .0) (c .before .if1 .taken) .part,
       pre .2,
@@ -37,20 +37,21 @@ same-length c = search needs
 
 returns : tie.Need-returns
 returns c =
-    let args = c .before .before .before .before .before .before .before .before .before .before .before .before .before .args in
-    let pre = c .before .before .before .before .before .before .before .before .before .before .before .before .before .pre in
-    let index = c .before .before .before .before .before .before .before .index in
-    let if1 = c .before .before .before .before .if1 .taken in
-    let claim-part = c .before .before .claim-part in
+    let start = let c : tie.After-shared-slice-known = search in let c : tie.Start = search in c in
+    let args = start .args in
+    let pre = start .pre in
+    let index = let c : tie.After-index = search in c .index in
+    let if1 = let c : tie.Then1 = search in c .if1 .taken in
+    let claim-part = let c : tie.After-claim-part = search in c .claim-part in
     claimed-ext _ _ _ _ _ _ _
     (held-first _ (args .s .now) (pre .0) (args .t .now) (pre .1) (index .result) (index .ensures .0) if1 .holds)
     (claim-part .ensures)
 
 claim-part-requires-2 : tie.Need-claim-part-requires-2
 claim-part-requires-2 c κs =
-    let args = c .before .before .before .before .before .before .before .before .before .before .before .args in
-    let pre = c .before .before .before .before .before .before .before .before .before .before .before .pre in
-    let index2 = c .before .before .before .index2 in (
+    let args = let c : tie.Start = search in c .args in
+    let pre = let c : tie.Start = search in c .pre in
+    let index2 = let c : tie.After-index2 = search in c .index2 in (
       pre .0,
       held-all _ (args .s .now) (pre .0) (args .t .now) (pre .1) (index2 .result) (index2 .ensures .0) (c .before .if2 .taken) .part,
       pre .2,
@@ -61,21 +62,22 @@ same-length-2 c = search needs
 
 returns-2 : tie.Need-returns-2
 returns-2 c =
-    let args = c .before .before .before .before .before .before .before .before .before .before .before .before .before .before .args in
-    let pre = c .before .before .before .before .before .before .before .before .before .before .before .before .before .before .pre in
-    let index2 = c .before .before .before .before .before .before .index2 in
-    let if2 = c .before .before .before .before .if2 .taken in
-    let claim-part2 = c .before .before .claim-part2 in
+    let start = let c : tie.After-shared-slice-known2 = search in let c : tie.Start = search in c in
+    let args = start .args in
+    let pre = start .pre in
+    let index2 = let c : tie.After-index2 = search in c .index2 in
+    let if2 = let c : tie.Then2 = search in c .if2 .taken in
+    let claim-part2 = let c : tie.After-claim-part2 = search in c .claim-part2 in
     claimed-ext _ _ _ _ _ _ _
     (held-all _ (args .s .now) (pre .0) (args .t .now) (pre .1) (index2 .result) (index2 .ensures .0) if2 .holds)
     (claim-part2 .ensures)
 
 claim-part-requires-3 : tie.Need-claim-part-requires-3
 claim-part-requires-3 c κs =
-    let args = c .before .before .before .before .before .before .before .before .before .before .before .before .args in
-    let pre = c .before .before .before .before .before .before .before .before .before .before .before .before .pre in
-    let index = c .before .before .before .before .before .before .index in
-    let index2 = c .before .before .before .before .index2 in (
+    let args = let c : tie.Start = search in c .args in
+    let pre = let c : tie.Start = search in c .pre in
+    let index = let c : tie.After-index = search in c .index in
+    let index2 = let c : tie.After-index2 = search in c .index2 in (
       pre .0,
       held-rest _ (args .s .now) (pre .0) (args .t .now) (pre .1) (index .result) (index2 .result) (index .ensures .0) (index2 .ensures .0) (c .before .if3 .taken) .part,
       pre .2,
@@ -86,22 +88,21 @@ same-length-3 c = search needs
 
 returns-3 : tie.Need-returns-3
 returns-3 c =
-    let args = c .before .before .before .before .before .before .before .before .before .before .before .before .before .before .before .args in
-    let pre = c .before .before .before .before .before .before .before .before .before .before .before .before .before .before .before .pre in
-    let index = c .before .before .before .before .before .before .before .before .before .index in
-    let index2 = c .before .before .before .before .before .before .before .index2 in
-    let if3 = c .before .before .before .before .if3 .taken in
-    let claim-part3 = c .before .before .claim-part3 in
+    let start = let c : tie.After-slice-known = search in let c : tie.Start = search in c in
+    let args = start .args in
+    let pre = start .pre in
+    let index = let c : tie.After-index = search in c .index in
+    let index2 = let c : tie.After-index2 = search in c .index2 in
+    let if3 = let c : tie.Then3 = search in c .if3 .taken in
+    let claim-part3 = let c : tie.After-claim-part3 = search in c .claim-part3 in
     claimed-ext _ _ _ _ _ _ _
     (held-rest _ (args .s .now) (pre .0) (args .t .now) (pre .1) (index .result) (index2 .result) (index .ensures .0) (index2 .ensures .0) if3 .holds)
     (claim-part3 .ensures)
 
 returns-4 : tie.Need-returns-4
 returns-4 c =
-    let args = c .before .before .before .before .before .before .before .before .before .before .before .args in
-    let if1 = c .before .before .if1 .left in
-    let args = args in
-    let if1 = if1 in
+    let args = let c : tie.Start = search in c .args in
+    let if1 = let c : tie.Else1 = search in c .if1 .left in
     claimed-none (args .s .now) (args .slot) (recordHolds (slotOf 8 (args .t .now))) (holds-none (args .t .now) if1 (c .before .if2 .left) (c .if3 .left)) (args .due .now)
 
 pub claim-spec : {M : Type 1} → statement M

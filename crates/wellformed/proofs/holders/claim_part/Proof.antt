@@ -19,7 +19,7 @@ abbrev μ-loop : tie.MeasureT-loop
 
 loop-holds : tie.Need-loop-holds Inv-loop μ-loop
 loop-holds c =
-    let args = c .before .before .before .args in
+    let args = let c : tie.Start Inv-loop μ-loop = search in c .args in
     let l = args .t .now in
     let from = args .from in
     (omega arith, omega arith, refl, claimed-none (args .s .now) (args .slot) (inPart l from from) (part-start l from) (args .due .now))
@@ -41,8 +41,8 @@ mul-if1 c = omega arith
 
 add-if1 : tie.Need-add-if1 Inv-loop μ-loop
 add-if1 c =
-    let pre = c .before .before .before .before .before .before .before .pre in
-    let loop = c .before .before .before .loop in
+    let pre = let c : tie.Start Inv-loop μ-loop = search in c .pre in
+    let loop = let c : tie.At-loop Inv-loop μ-loop = search in c .loop in
     omega (arith, pre .1 .below (loop .i) (omega arith))
 
 add-if1-2 : tie.Need-add-if1-2 Inv-loop μ-loop
@@ -50,19 +50,21 @@ add-if1-2 c = omega arith
 
 shared-slice-read-if1 : tie.Need-shared-slice-read-if1 Inv-loop μ-loop
 shared-slice-read-if1 c =
-    let pre = c .before .before .before .before .before .before .before .before .pre in
-    let loop = c .before .before .before .before .loop in
+    let pre = let c : tie.Start Inv-loop μ-loop = search in c .pre in
+    let loop = let c : tie.At-loop Inv-loop μ-loop = search in c .loop in
     omega (arith, pre .1 .below (loop .i) (omega arith))
 
 same-length : tie.Need-same-length Inv-loop μ-loop
-same-length c = c .before .before .before .before .before .loop .inv .2
+same-length c =
+    let loop = let c : tie.At-loop Inv-loop μ-loop = search in c .loop .inv in
+    loop .2
 
 returns : tie.Need-returns Inv-loop μ-loop
 returns c =
-    let args = c .before .before .before .before .before .before .before .before .before .args in
-    let pre = c .before .before .before .before .before .before .before .before .before .pre in
-    let loop = c .before .before .before .before .before .loop in
-    let index = c .before .before .index in
+    let args = let c : tie.Start Inv-loop μ-loop = search in c .args in
+    let pre = let c : tie.Start Inv-loop μ-loop = search in c .pre in
+    let loop = let c : tie.At-loop Inv-loop μ-loop = search in c .loop in
+    let index = let c : tie.After-index Inv-loop μ-loop = search in c .index in
     let l = args .t .now in
     let here = index .ensures .0 in
     claimed-wrong (args .s .now) (args .slot) (inPart l (args .from) (args .to)) (index .result)
@@ -72,8 +74,8 @@ returns c =
 
 slice-write-due : tie.Need-slice-write-due Inv-loop μ-loop
 slice-write-due c =
-    let pre = c .before .before .before .before .before .before .before .before .before .pre in
-    let loop = c .before .before .before .before .before .loop in
+    let pre = let c : tie.Start Inv-loop μ-loop = search in c .pre in
+    let loop = let c : tie.At-loop Inv-loop μ-loop = search in c .loop in
     omega (arith, pre .1 .below (loop .i) (omega arith))
 
 add-i : tie.Need-add-i Inv-loop μ-loop
@@ -84,10 +86,10 @@ loop-less c = omega arith
 
 loop-again : tie.Need-loop-again Inv-loop μ-loop
 loop-again c =
-    let args = c .before .before .before .before .before .before .before .before .before .args in
-    let pre = c .before .before .before .before .before .before .before .before .before .pre in
-    let loop = c .before .before .before .before .before .loop in
-    let index = c .before .before .index in
+    let args = let c : tie.Start Inv-loop μ-loop = search in c .args in
+    let pre = let c : tie.Start Inv-loop μ-loop = search in c .pre in
+    let loop = let c : tie.At-loop Inv-loop μ-loop = search in c .loop in
+    let index = let c : tie.After-index Inv-loop μ-loop = search in c .index in
     let l = args .t .now in
     let from = args .from in
     let i = loop .i in
@@ -105,7 +107,7 @@ same-length-2 c = c .before .loop .inv .2
 
 returns-2 : tie.Need-returns-2 Inv-loop μ-loop
 returns-2 c =
-    let args = c .before .before .before .before .before .args in
+    let args = let c : tie.Start Inv-loop μ-loop = search in c .args in
     let loop = c .before .loop in
     let whole : loop .i ≡ args .to = omega arith in rw whole at (loop .inv .3)
 

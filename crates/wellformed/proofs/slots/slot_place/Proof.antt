@@ -1,6 +1,6 @@
 -- The rest of the area from the slot's offset on.
 use borrow.Author.Needs.{needs}
-use Rattle.wellformed.proofs.SlotLaws.{place-part}
+use Rattle.wellformed.proofs.AreaLaws.{place-part}
 use Rattle.wellformed.proofs.slots.slot_place.Statement.{statement}
 use Rattle.wellformed.proofs.slots.slot_place.Tie as tie
 

@@ -6,15 +6,15 @@ use Prim.Native.Nat.{ℕ, _-_, _≤_}
 use native.Mathlib.Omega.{arith}
 use Rattle.slot.specs.Logic.{every}
 use Rattle.rules.specs.Model.{controller}
-use Rattle.rules.specs.Layout.{cellsIn, slotPlace}
-use Rattle.rules.specs.AreaRight.{slotPlaceRight}
-use Rattle.wellformed.proofs.Chains.{passes, fails, every-start, every-next, every-no, every-yes}
-use Rattle.wellformed.proofs.SlotLaws.{place-size}
+use Rattle.rules.specs.Layout.{slotPlace}
+use Rattle.slotright.specs.SlotParts.{slotRightIn}
+use Rattle.slotright.proofs.Chains.{passes, fails, every-start, every-next, every-no, every-yes}
+use Rattle.wellformed.proofs.AreaLaws.{place-size}
 use Rattle.wellformed.proofs.slots.slots_right.Statement.{statement}
 use Rattle.wellformed.proofs.slots.slots_right.Tie as tie
 
 abbrev right : List ℕ → ℕ → ℕ → Bool
-right l clock k = slotPlaceRight controller (cellsIn controller l) clock (slotPlace controller l k)
+right l clock k = slotRightIn l clock (slotPlace controller l k)
 
 abbrev Inv-loop : tie.InvT-loop
 Inv-loop s n clock k₀ k = (k ≤ 8) × (every k (right s clock) ≡ true)
@@ -26,23 +26,25 @@ loop-holds : tie.Need-loop-holds Inv-loop μ-loop
 loop-holds c = (omega arith, every-start _)
 
 slot-place-requires : tie.Need-slot-place-requires Inv-loop μ-loop
-slot-place-requires c κs = (c .before .before .before .pre, omega arith)
+slot-place-requires c κs =
+    let start = let c : tie.Start Inv-loop μ-loop = search in c in
+    (start .pre, omega arith)
 
 slot-right-requires : tie.Need-slot-right-requires Inv-loop μ-loop
 slot-right-requires c κs =
-    let args = c .before .before .before .before .args in
-    let pre = c .before .before .before .before .pre in
-    let loop = c .before .before .loop in
+    let args = let c : tie.Start Inv-loop μ-loop = search in c .args in
+    let pre = let c : tie.Start Inv-loop μ-loop = search in c .pre in
+    let loop = let c : tie.At-loop Inv-loop μ-loop = search in c .loop in
     let slot-place = c .slot-place in
     (pre, place-size (args .n) (args .s .now) pre (loop .k) (omega arith) (slot-place .result .now) (slot-place .ensures))
 
 returns : tie.Need-returns Inv-loop μ-loop
 returns c =
-    let args = c .before .before .before .before .before .before .args in
-    let loop = c .before .before .before .before .loop in
-    let slot-place = c .before .before .slot-place in
+    let args = let c : tie.Start Inv-loop μ-loop = search in c .args in
+    let loop = let c : tie.At-loop Inv-loop μ-loop = search in c .loop in
+    let slot-place = let c : tie.After-slot-place Inv-loop μ-loop = search in c .slot-place in
     every-no 8 (right (args .s .now) (args .clock)) (loop .k) (omega arith)
-    (fails (c .before .slot-right .ensures ∙ ap (slotPlaceRight controller (cellsIn controller (args .s .now)) (args .clock)) (slot-place .ensures)) (c .if1 .taken))
+    (fails (c .before .slot-right .ensures ∙ ap (slotRightIn (args .s .now) (args .clock)) (slot-place .ensures)) (c .if1 .taken))
 
 add-k : tie.Need-add-k Inv-loop μ-loop
 add-k c = omega arith
@@ -52,17 +54,17 @@ loop-less c = omega arith
 
 loop-again : tie.Need-loop-again Inv-loop μ-loop
 loop-again c =
-    let args = c .before .before .before .before .before .before .args in
-    let loop = c .before .before .before .before .loop in
-    let slot-place = c .before .before .slot-place in (
+    let args = let c : tie.Start Inv-loop μ-loop = search in c .args in
+    let loop = let c : tie.At-loop Inv-loop μ-loop = search in c .loop in
+    let slot-place = let c : tie.After-slot-place Inv-loop μ-loop = search in c .slot-place in (
       omega arith,
       every-next (right (args .s .now) (args .clock)) (loop .k) (loop .inv .1)
-          (passes (c .before .slot-right .ensures ∙ ap (slotPlaceRight controller (cellsIn controller (args .s .now)) (args .clock)) (slot-place .ensures)) (c .if1 .left)),
+          (passes (c .before .slot-right .ensures ∙ ap (slotRightIn (args .s .now) (args .clock)) (slot-place .ensures)) (c .if1 .left)),
     )
 
 returns-2 : tie.Need-returns-2 Inv-loop μ-loop
 returns-2 c =
-    let args = c .before .before .before .args in
+    let args = let c : tie.Start Inv-loop μ-loop = search in c .args in
     let loop = c .before .loop in
     every-yes 8 (right (args .s .now) (args .clock)) (loop .k) (omega arith) (loop .inv .1)
 

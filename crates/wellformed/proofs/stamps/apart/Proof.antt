@@ -1,7 +1,7 @@
 -- Either test, in the order of the clause.
 use borrow.Author.Tests.{eq-eqb, ne-eqb}
 use Rattle.rules.specs.LogsRight.{stampsApart}
-use Rattle.wellformed.proofs.Chains.{or-yes, or-no}
+use Rattle.slotright.proofs.Chains.{or-yes, or-no}
 use Rattle.wellformed.proofs.stamps.apart.Statement.{statement}
 use Rattle.wellformed.proofs.stamps.apart.Tie as tie
 

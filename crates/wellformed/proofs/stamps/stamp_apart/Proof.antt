@@ -7,7 +7,7 @@ use borrow.Author.Needs.{needs}
 use lib.ListN.{getD}
 use Rattle.slot.specs.Logic.{every}
 use Rattle.rules.specs.LogsRight.{stampsApart}
-use Rattle.wellformed.proofs.Chains.{passes, fails, every-start, every-next, every-no, every-yes}
+use Rattle.slotright.proofs.Chains.{passes, fails, every-start, every-next, every-no, every-yes}
 use Rattle.wellformed.proofs.stamps.stamp_apart.Statement.{statement}
 use Rattle.wellformed.proofs.stamps.stamp_apart.Tie as tie
 
@@ -37,8 +37,8 @@ apart-requires c κs = search needs
 
 returns : tie.Need-returns Inv-loop μ-loop
 returns c =
-    let args = c .before .before .before .before .args in
-    let loop = c .before .before .before .loop in
+    let args = let c : tie.Start Inv-loop μ-loop = search in c .args in
+    let loop = let c : tie.At-loop Inv-loop μ-loop = search in c .loop in
     every-no (args .j) (λ k. stampsApart (getD (args .t1) k 0) (getD (args .t1) (args .j) 0)) (loop .i) (omega arith) (fails (c .before .apart .ensures) (c .if1 .taken))
 
 add-i : tie.Need-add-i Inv-loop μ-loop
@@ -49,15 +49,15 @@ loop-less c = omega arith
 
 loop-again : tie.Need-loop-again Inv-loop μ-loop
 loop-again c =
-    let args = c .before .before .before .before .args in
-    let loop = c .before .before .before .loop in (
+    let args = let c : tie.Start Inv-loop μ-loop = search in c .args in
+    let loop = let c : tie.At-loop Inv-loop μ-loop = search in c .loop in (
       omega arith,
       every-next (λ k. stampsApart (getD (args .t1) k 0) (getD (args .t1) (args .j) 0)) (loop .i) (loop .inv .1) (passes (c .before .apart .ensures) (c .if1 .left)),
     )
 
 returns-2 : tie.Need-returns-2 Inv-loop μ-loop
 returns-2 c =
-    let args = c .before .before .args in
+    let args = let c : tie.Start Inv-loop μ-loop = search in c .args in
     let loop = c .before .loop in
     every-yes (args .j) (λ k. stampsApart (getD (args .t1) k 0) (getD (args .t1) (args .j) 0)) (loop .i) (omega arith) (loop .inv .1)
 

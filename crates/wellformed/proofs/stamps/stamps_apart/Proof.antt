@@ -6,8 +6,8 @@ use native.Mathlib.Omega.{arith}
 use lib.ListN.{getD}
 use Rattle.slot.specs.Logic.{every}
 use Rattle.rules.specs.LogsRight.{stampsApart}
-use Rattle.wellformed.proofs.Chains.{passes, fails, every-start, every-next, every-no, every-yes}
-use Rattle.wellformed.proofs.SlotLaws.{stamps-all}
+use Rattle.slotright.proofs.Chains.{passes, fails, every-start, every-next, every-no, every-yes}
+use Rattle.wellformed.proofs.AreaLaws.{stamps-all}
 use Rattle.wellformed.proofs.stamps.stamps_apart.Statement.{statement}
 use Rattle.wellformed.proofs.stamps.stamps_apart.Tie as tie
 
@@ -28,10 +28,10 @@ stamp-apart-requires c κs = omega arith
 
 returns : tie.Need-returns Inv-loop μ-loop
 returns c =
-    let args = c .before .before .before .before .before .before .args in
-    let pre = c .before .before .before .before .before .before .pre in
-    let stamps-of = c .before .before .before .before .stamps-of in
-    let loop = c .before .before .before .loop in
+    let args = let c : tie.Start Inv-loop μ-loop = search in c .args in
+    let pre = let c : tie.Start Inv-loop μ-loop = search in c .pre in
+    let stamps-of = let c : tie.After-stamps-of Inv-loop μ-loop = search in c .stamps-of in
+    let loop = let c : tie.At-loop Inv-loop μ-loop = search in c .loop in
     every-no 8 (λ k. every k (λ i. stampsApart (getD (stamps-of .result) i 0) (getD (stamps-of .result) k 0))) (loop .j) (omega arith)
     (fails (c .before .stamp-apart .ensures) (c .if1 .taken))
     ∙ stamps-all (args .n) (args .s .now) pre (stamps-of .result) (stamps-of .ensures)
@@ -44,8 +44,8 @@ loop-less c = omega arith
 
 loop-again : tie.Need-loop-again Inv-loop μ-loop
 loop-again c =
-    let stamps-of = c .before .before .before .before .stamps-of in
-    let loop = c .before .before .before .loop in (
+    let stamps-of = let c : tie.After-stamps-of Inv-loop μ-loop = search in c .stamps-of in
+    let loop = let c : tie.At-loop Inv-loop μ-loop = search in c .loop in (
       omega arith,
       every-next (λ k. every k (λ i. stampsApart (getD (stamps-of .result) i 0) (getD (stamps-of .result) k 0))) (loop .j) (loop .inv .1)
           (passes (c .before .stamp-apart .ensures) (c .if1 .left)),
@@ -53,9 +53,9 @@ loop-again c =
 
 returns-2 : tie.Need-returns-2 Inv-loop μ-loop
 returns-2 c =
-    let args = c .before .before .before .before .args in
-    let pre = c .before .before .before .before .pre in
-    let stamps-of = c .before .before .stamps-of in
+    let args = let c : tie.Start Inv-loop μ-loop = search in c .args in
+    let pre = let c : tie.Start Inv-loop μ-loop = search in c .pre in
+    let stamps-of = let c : tie.After-stamps-of Inv-loop μ-loop = search in c .stamps-of in
     let loop = c .before .loop in
     every-yes 8 (λ k. every k (λ i. stampsApart (getD (stamps-of .result) i 0) (getD (stamps-of .result) k 0))) (loop .j) (omega arith) (loop .inv .1)
     ∙ stamps-all (args .n) (args .s .now) pre (stamps-of .result) (stamps-of .ensures)

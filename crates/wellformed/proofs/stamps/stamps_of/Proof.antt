@@ -6,7 +6,7 @@ use native.Mathlib.Omega.{arith}
 use lib.ListN.{drop, replicate}
 use Rattle.wire.specs.Table.{tab}
 use Rattle.wire.proofs.Laws.Table.{fill-start, fill-step, fill-end}
-use Rattle.wellformed.specs.Frame.{stampIn}
+use Rattle.wellformed.specs.AreaParts.{stampIn}
 use Rattle.wellformed.proofs.stamps.stamps_of.Statement.{statement}
 use Rattle.wellformed.proofs.stamps.stamps_of.Tie as tie
 
@@ -51,13 +51,13 @@ loop-less c = omega arith
 
 loop-again : tie.Need-loop-again Inv-loop μ-loop
 loop-again c =
-    let args = c .before .before .before .before .args in
-    let loop = c .before .before .loop in
+    let args = let c : tie.Start Inv-loop μ-loop = search in c .args in
+    let loop = let c : tie.At-loop Inv-loop μ-loop = search in c .loop in
     (omega arith, rw (c .get .ensures) (fill-step (stampIn (args .n) (args .s .now)) (replicate 8 0) (loop .stamps) (loop .k) (omega arith) (loop .inv .1)))
 
 returns : tie.Need-returns Inv-loop μ-loop
 returns c =
-    let args = c .before .before .before .args in
+    let args = let c : tie.Start Inv-loop μ-loop = search in c .args in
     let loop = c .before .loop in
     let whole : loop .k ≡ 8 = omega arith in
     fill-end (stampIn (args .n) (args .s .now)) (replicate 8 0) (loop .stamps) 8 (omega arith) (rw whole at (loop .inv .1))

@@ -1,0 +1,3 @@
+pub mod Tested
+pub mod Parts
+pub mod Unique

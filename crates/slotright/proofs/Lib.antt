@@ -1,0 +1,10 @@
+pub mod Chains
+pub mod CellPlaces
+pub mod Words
+pub mod Zero
+pub mod Tables
+pub mod LogLaws
+pub mod MarkLaws
+pub mod NumberLaws
+pub mod SlotLaws
+pub mod Unique

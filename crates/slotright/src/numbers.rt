@@ -1,0 +1,68 @@
+// The numbers of a slot: its counts, start, "taken" and commit stamp.
+ghost use mathlib.Core.Path.{_≡_};
+ghost use Prim.Native.Nat.{_≤_};
+ghost use lib.ListN.{length, drop};
+ghost use Rattle.wire.specs.Field.{be};
+ghost use Rattle.slot.specs.Layout.{slotOf};
+ghost use Rattle.rules.specs.AreaRight.{countsRight, takenRight, commitRight};
+ghost use Rattle.slotright.specs.SlotParts.{numbersRight};
+use crate::COMMIT_AT;
+use crate::PHASE_AT;
+use crate::READ_COUNT_AT;
+use crate::START_AT;
+use crate::TAKEN_AT;
+use crate::WRITE_COUNT_AT;
+use crate::index;
+use slot::SlotRecord;
+
+// Counts at most 16.
+pub fn counts_right(t: &[u8]) -> bool
+    requires { ⌜ 197 ≤ length (now t) ⌝ }
+    ensures { λ r. ⌜ r ≡ countsRight (slotOf 8 (now (t .entry))) ⌝ }
+{
+    index(t[READ_COUNT_AT]) <= SlotRecord::READS && index(t[WRITE_COUNT_AT]) <= SlotRecord::WRITES
+}
+
+// "Taken" is locks taken in phase 2, cells published in phase 4, else 0.
+fn taken_right(t: &[u8]) -> bool
+    requires { ⌜ 197 ≤ length (now t) ⌝ }
+    ensures { λ r. ⌜ r ≡ takenRight (slotOf 8 (now (t .entry))) ⌝ }
+{
+    let phase = t[PHASE_AT];
+    let taken = t[TAKEN_AT];
+    if phase == 2 {
+        return taken <= t[WRITE_COUNT_AT];
+    }
+    if phase == 4 {
+        return taken < t[WRITE_COUNT_AT];
+    }
+    taken == 0
+}
+
+// The commit stamp is 0 up to phase 2, then above start and at most the clock.
+fn commit_right(t: &[u8], start: u64, clock: u64) -> bool
+    requires { ⌜ (197 ≤ length (now t)) × (start ≡ be 8 (drop 5 (now t))) ⌝ }
+    ensures { λ r. ⌜ r ≡ commitRight clock (slotOf 8 (now (t .entry))) ⌝ }
+{
+    let commit = wire::get(t, COMMIT_AT, 8);
+    let phase = t[PHASE_AT];
+    if phase <= 2 {
+        return commit == 0;
+    }
+    start < commit && commit <= clock
+}
+
+// Start, taken and commit stamp.
+pub fn numbers_right(t: &[u8], clock: u64) -> bool
+    requires { ⌜ 197 ≤ length (now t) ⌝ }
+    ensures { λ r. ⌜ r ≡ numbersRight clock (slotOf 8 (now (t .entry))) ⌝ }
+{
+    let start = wire::get(t, START_AT, 8);
+    if clock < start {
+        return false;
+    }
+    if !taken_right(t) {
+        return false;
+    }
+    commit_right(t, start, clock)
+}

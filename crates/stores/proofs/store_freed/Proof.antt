@@ -1,0 +1,47 @@
+-- `store_freed` meets its contract: the cells are freed first, and the slot is cleared in the packed state that this leaves.
+use mathlib.Core.Path.{ap, _∙_}
+use borrow.Author.Needs.{needs}
+use lib.ListN.{length-map}
+use Rattle.slot.specs.Layout.{empty}
+use Rattle.rules.specs.Model.{controller}
+use Rattle.rules.specs.State.{idle}
+use Rattle.rules.specs.Cells.{freeAll}
+use Rattle.rules.specs.Layout.{lay}
+use Rattle.rules.proofs.LayView.{view-lay}
+use Rattle.rules.proofs.AreaRead.{count-read, slots-read}
+use Rattle.area.specs.Good.{stateIn}
+use Rattle.stores.specs.Stores.{freedCells}
+use Rattle.stores.proofs.Stored.{slot-stored}
+use Rattle.stores.proofs.store_freed.Statement.{statement}
+use Rattle.stores.proofs.store_freed.Tie as tie
+
+slot-offset-requires : tie.Need-slot-offset-requires
+slot-offset-requires c κs = search needs
+
+free-cells-requires : tie.Need-free-cells-requires
+free-cells-requires c κs = search needs
+
+clear-requires : tie.Need-clear-requires
+clear-requires c κs = search needs
+
+same-length : tie.Need-same-length
+same-length c = search needs
+
+returns : tie.Need-returns
+unfolding freeAll
+returns c =
+    let start = let c : tie.Start = search in c in
+    let slot-offset = let c : tie.After-slot-offset = search in c .slot-offset .ensures in
+    let free-cells-last = let c : tie.After-free-cells = search in c .free-cells .last in
+    let free-cells-ensures = let c : tie.After-free-cells = search in c .free-cells .ensures in
+    let clear-last = let c : tie.After-clear = search in c .clear .last in
+    let clear-ensures = let c : tie.After-clear = search in c .clear .ensures in
+    let l = let c : tie.Start = search in c .args .s .now in
+    let i = let c : tie.Start = search in c .args .i in
+    slot-stored (freedCells i (stateIn l)) _ i empty (free-cells-last .0) (clear-last .0) _ (slots-read controller l)
+    (length-map (stateIn l .cells) _ ∙ count-read controller l) (start .pre .1) (ap lay (view-lay idle)) free-cells-ensures slot-offset clear-ensures
+
+pub store-freed-spec : {M : Type 1} → statement M
+store-freed-spec =
+    tie.close
+    (tie.spec slot-offset-requires free-cells-requires clear-requires same-length returns)
