@@ -19,11 +19,11 @@ pub fn finish(s: &mut [u8], i: u8) -> Reply
     if area::phase_at(s, i) != 3 {
         return Reply::NotAllowed;
     }
+    let v = area::fields_at(s, i);
     if spoilt(s, i) {
-        stores::store_freed(s, i);
+        stores::store_freed(s, i, v.idled());
         return Reply::Aborted;
     }
-    let v = area::fields_at(s, i);
     stores::store_fields(s, i, v.finished());
     Reply::Done
 }
@@ -73,6 +73,7 @@ pub fn give_up(s: &mut [u8], i: u8) -> Reply
     if phase == 4 {
         return Reply::NotAllowed;
     }
-    stores::store_freed(s, i);
+    let v = area::fields_at(s, i);
+    stores::store_freed(s, i, v.idled());
     Reply::Done
 }

@@ -16,7 +16,7 @@ use Rattle.slot.specs.declared.ReadFound.{ReadFound}
 use Rattle.slot.specs.declared.ReadFound.the-variants as read
 use Rattle.slot.specs.declared.WriteFound.{WriteFound}
 use Rattle.slot.specs.declared.WriteFound.the-variants as write
-use Rattle.slot.specs.Layout.{readCapacity}
+use Rattle.slot.specs.Layout.{readCapacity, empty}
 use Rattle.slot.specs.Logs.{readEntry, writeEntry, readLog, writeLog}
 use Rattle.slot.specs.Operations.{readFound, writeFound, begun, joined, closed}
 use Rattle.rules.specs.declared.Cell.{Cell}
@@ -33,7 +33,7 @@ use mathlib.Core.List.{[], _∷_, _++_}
 use Rattle.slot.proofs.Laws.Operations.{busy-joined}
 use Rattle.ways.proofs.Record.{Stands, stands}
 
-pub begun-stands : {w : SlotRecord} {start : ℕ} → w ≡ begun start → Stands w (opened start [] [])
+pub begun-stands : {w : SlotRecord} {start : ℕ} → w ≡ begun empty start → Stands w (opened start [] [])
 begun-stands made = stands _ made
 
 -- v is the record of an open slot
@@ -65,7 +65,7 @@ module _ (M : Model) (S : State) (i : ℕ) where
 
   -- v is the slot's record
   module _ {v : SlotRecord} (here : v ≡ lay (slotAt S i)) where
-    pub begin-0 : v .phase ≡ 0 → {start : ℕ} {w : SlotRecord} → start ≡ S .clock → w ≡ begun start → begin M S i ≡ accepted Done (turn S i (S .clock) (S .cells) (view w))
+    pub begin-0 : v .phase ≡ 0 → {start : ℕ} {w : SlotRecord} → start ≡ S .clock → w ≡ begun empty start → begin M S i ≡ accepted Done (turn S i (S .clock) (S .cells) (view w))
     unfolding begin
     begin-0 p now made = rw (is-idle (slotAt S i) v here p, begun-stands made .viewed, now)
 

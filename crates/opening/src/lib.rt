@@ -24,7 +24,8 @@ pub fn begin(s: &mut [u8], i: u8) -> Reply
         return Reply::NotAllowed;
     }
     let start = area::clock(s);
-    stores::store_fields(s, i, SlotRecord::begun(start));
+    let v = area::fields_at(s, i);
+    stores::store_fields(s, i, v.begun(start));
     Reply::Done
 }
 

@@ -23,8 +23,6 @@ use slot::SlotRecord;
 use slot::WriteEntry;
 use slot::WriteFound;
 
-mod entries;
-
 // The bytes of the read log, which the write log follows.
 const READ_LOG: usize = ReadEntry::SIZE * SlotRecord::READS;
 

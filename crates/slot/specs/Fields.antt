@@ -3,7 +3,7 @@ use mathlib.Core.Bool.{cond}
 use Prim.Native.Nat.{_-_}
 use lib.Dec.{eqb}
 use lib.ListN.{getD, set, replicate}
-use Rattle.slot.specs.Layout.{noRead, noWrite, empty}
+use Rattle.slot.specs.Layout.{readCapacity, writeCapacity, noRead, noWrite, empty}
 use Rattle.slot.specs.Operations.{withReads, withWrites}
 use Rattle.slot.specs.declared.SlotRecord.{SlotRecord}
 
@@ -18,8 +18,8 @@ fieldsOf v =
       writecount = v .writecount;
       start = v .start;
       commit = v .commit;
-      reads = replicate 16 noRead;
-      writes = replicate 16 noWrite;
+      reads = replicate readCapacity noRead;
+      writes = replicate writeCapacity noWrite;
     }
 
 -- the fields of w with the logs of v
@@ -47,7 +47,7 @@ withLast v w = withReads (withFields v w) (w .readcount) (set (v .reads) (w .rea
 
 -- the record with its write log alone
 abbrev pub withoutReads : SlotRecord → SlotRecord
-withoutReads v = withReads v (v .readcount) (replicate 16 noRead)
+withoutReads v = withReads v (v .readcount) (replicate readCapacity noRead)
 
 -- w with the read log of v, or with its write log
 abbrev pub withReadsOf : SlotRecord → SlotRecord → SlotRecord

@@ -35,8 +35,8 @@ empty =
       writecount = 0;
       start = 0;
       commit = 0;
-      reads = replicate 16 noRead;
-      writes = replicate 16 noWrite;
+      reads = replicate readCapacity noRead;
+      writes = replicate writeCapacity noWrite;
     }
 
 -- a flag or a mark is 0 or 1

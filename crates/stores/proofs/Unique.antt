@@ -12,10 +12,10 @@ module _ (l : List ℕ) where
   put-cell-unique at x l₁ l₂ = unique
 
   module _ (i : ℕ) where
-    pub store-freed-unique : (l₁ l₂ : List ℕ) → l₁ ≡ storedFreed l i → l₂ ≡ storedFreed l i → l₁ ≡ l₂
-    store-freed-unique l₁ l₂ = unique
-
     module _ (v : SlotRecord) where
+      pub store-freed-unique : (l₁ l₂ : List ℕ) → l₁ ≡ storedFreed l i v → l₂ ≡ storedFreed l i v → l₁ ≡ l₂
+      store-freed-unique l₁ l₂ = unique
+
       pub store-fields-unique : (l₁ l₂ : List ℕ) → l₁ ≡ storedFields l i v → l₂ ≡ storedFields l i v → l₁ ≡ l₂
       store-fields-unique l₁ l₂ = unique
 

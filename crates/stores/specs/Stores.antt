@@ -7,7 +7,6 @@ use lib.ListN.{getD, set}
 use Rattle.wire.specs.Part.{splice}
 use Rattle.slot.specs.declared.SlotRecord.{SlotRecord}
 use Rattle.slot.specs.Fields.{turnedTo, withLast, withReadsOf, withWritesOf}
-use Rattle.slot.specs.Layout.{empty}
 use Rattle.rules.specs.Model.{controller}
 use Rattle.rules.specs.State.{State, turn}
 use Rattle.rules.specs.Cells.{freeAll}
@@ -38,9 +37,9 @@ storedWrites l i v = stored l i (clockIn l) (stateIn l .cells) (withReadsOf (rec
 abbrev pub storedReadsClock : List ℕ → ℕ → SlotRecord → ℕ → List ℕ
 storedReadsClock l i v clock = stored l i clock (stateIn l .cells) (withWritesOf (recordAt l i) v)
 
--- the slot idle, with all cells freed that it holds
-abbrev pub storedFreed : List ℕ → ℕ → List ℕ
-storedFreed l i = stored l i (clockIn l) (freeAll i (stateIn l .cells)) empty
+-- the record as it is, with all cells freed that the slot holds
+abbrev pub storedFreed : List ℕ → ℕ → SlotRecord → List ℕ
+storedFreed l i v = stored l i (clockIn l) (freeAll i (stateIn l .cells)) v
 
 -- a cell put at `at`
 abbrev pub cellPut : List ℕ → ℕ → Cell → List ℕ

@@ -3,7 +3,7 @@ ghost use mathlib.Core.Path.{_≡_};
 ghost use Prim.Native.Nat.{_+_, _<_, _≤_};
 ghost use lib.ListN.{length};
 ghost use Rattle.slot.specs.Fields.{turnedTo, withLast, withReadsOf, withWritesOf};
-ghost use Rattle.slot.specs.Layout.{readCapacity};
+ghost use Rattle.slot.specs.Layout.{readCapacity, empty};
 ghost use Rattle.rules.specs.Model.{controller};
 ghost use Rattle.rules.specs.Layout.{countIn, lay, view, pack};
 ghost use Rattle.area.specs.Good.{Good, stateIn};
@@ -118,10 +118,11 @@ fn free_cells(s: &mut [u8], i: u8)
     }
 }
 
-// Clears slot `i` throughout, with all cells freed that it holds.
-pub fn store_freed(s: &mut [u8], i: u8)
+// Stores slot `i` idle, with all cells freed that it holds: its record is zero throughout, and so its bytes are cleared in place.
+pub fn store_freed(s: &mut [u8], i: u8, v: SlotRecord)
     requires { ⌜ Good (now s) × (i < 8) ⌝ }
-    ensures { λ r. ⌜ now (s .exit) ≡ storedFreed (now (s .entry)) i ⌝ }
+    requires { ⌜ v ≡ empty ⌝ }
+    ensures { λ r. ⌜ now (s .exit) ≡ storedFreed (now (s .entry)) i v ⌝ }
 {
     let at = area::slot_offset(s, i);
     free_cells(s, i);

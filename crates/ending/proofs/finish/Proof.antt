@@ -20,8 +20,14 @@ same-length c = search needs
 returns : tie.Need-returns
 returns c = refuses _ (finish-4 controller _ _ (other (c .before .phase-at .ensures) (c .if1 .taken)))
 
+fields-at-requires : tie.Need-fields-at-requires
+fields-at-requires c κs = search needs
+
 spoilt-requires : tie.Need-spoilt-requires
 spoilt-requires c κs = search needs
+
+idled-requires : tie.Need-idled-requires
+idled-requires c κs = search needs
 
 store-freed-requires : tie.Need-store-freed-requires
 store-freed-requires c κs = search needs
@@ -35,11 +41,9 @@ returns-2 c =
     let if1 = let c : tie.Else1 = search in c .if1 .left in
     let spoilt = let c : tie.After-spoilt = search in c .spoilt .ensures in
     let if2 = let c : tie.Then2 = search in c .if2 .taken in
+    let idled = let c : tie.After-idled = search in c .idled .ensures in
     let store-freed = let c : tie.After-store-freed = search in c .store-freed .ensures in
-    leaves _ (finish-13 controller _ _ refl (same phase-at if1) spoilt if2 refl) store-freed
-
-fields-at-requires : tie.Need-fields-at-requires
-fields-at-requires c κs = search needs
+    leaves _ (finish-13 controller _ _ refl (same phase-at if1) spoilt if2 idled) store-freed
 
 finished-requires : tie.Need-finished-requires
 finished-requires c κs = search needs
@@ -74,11 +78,12 @@ finish-spec =
     phase-at-requires
     same-length
     returns
+    fields-at-requires
     spoilt-requires
+    idled-requires
     store-freed-requires
     same-length-2
     returns-2
-    fields-at-requires
     finished-requires
     store-fields-requires
     same-length-3

@@ -25,6 +25,12 @@ returns-2 c =
     let phase-at = let c : tie.After-phase-at = search in c .phase-at .ensures in
     refuses _ (give-up-publishing controller _ _ refl (same phase-at (c .if2 .taken)))
 
+fields-at-requires : tie.Need-fields-at-requires
+fields-at-requires c κs = search needs
+
+idled-requires : tie.Need-idled-requires
+idled-requires c κs = search needs
+
 store-freed-requires : tie.Need-store-freed-requires
 store-freed-requires c κs = search needs
 
@@ -36,8 +42,9 @@ returns-3 c =
     let phase-at = let c : tie.After-phase-at = search in c .phase-at .ensures in
     let if1 = let c : tie.Else1 = search in c .if1 .left in
     let if2 = let c : tie.Else2 = search in c .if2 .left in
+    let idled = let c : tie.After-idled = search in c .idled .ensures in
     let store-freed = let c : tie.After-store-freed = search in c .store-freed .ensures in
-    leaves _ (give-up-0 controller _ _ refl (other phase-at if1) (other phase-at if2) refl) store-freed
+    leaves _ (give-up-0 controller _ _ refl (other phase-at if1) (other phase-at if2) idled) store-freed
 
 pub give-up-spec : {M : Type 1} → statement M
 give-up-spec =
@@ -48,6 +55,8 @@ give-up-spec =
     returns
     same-length-2
     returns-2
+    fields-at-requires
+    idled-requires
     store-freed-requires
     same-length-3
     returns-3)

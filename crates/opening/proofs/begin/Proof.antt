@@ -25,6 +25,9 @@ returns c = refuses _ (begin-4 controller _ _ (other (c .before .phase-at .ensur
 clock-requires : tie.Need-clock-requires
 clock-requires c κs = search needs
 
+fields-at-requires : tie.Need-fields-at-requires
+fields-at-requires c κs = search needs
+
 begun-requires : tie.Need-begun-requires
 begun-requires c κs = search needs
 
@@ -58,6 +61,7 @@ begin-spec =
     same-length
     returns
     clock-requires
+    fields-at-requires
     begun-requires
     store-fields-requires
     same-length-2

@@ -1,5 +1,5 @@
 -- `store_freed` meets its contract: the cells are freed first, and the slot is cleared in the packed state that this leaves.
-use mathlib.Core.Path.{ap, _∙_}
+use mathlib.Core.Path.{sym, ap, _∙_}
 use borrow.Author.Needs.{needs}
 use lib.ListN.{length-map}
 use Rattle.slot.specs.Layout.{empty}
@@ -10,7 +10,7 @@ use Rattle.rules.specs.Layout.{lay}
 use Rattle.rules.proofs.LayView.{view-lay}
 use Rattle.rules.proofs.AreaRead.{count-read, slots-read}
 use Rattle.area.specs.Good.{stateIn}
-use Rattle.stores.specs.Stores.{freedCells}
+use Rattle.stores.specs.Stores.{freedCells, storedFreed}
 use Rattle.stores.proofs.Stored.{slot-stored}
 use Rattle.stores.proofs.store_freed.Statement.{statement}
 use Rattle.stores.proofs.store_freed.Tie as tie
@@ -36,10 +36,11 @@ returns c =
     let free-cells-ensures = let c : tie.After-free-cells = search in c .free-cells .ensures in
     let clear-last = let c : tie.After-clear = search in c .clear .last in
     let clear-ensures = let c : tie.After-clear = search in c .clear .ensures in
-    let l = let c : tie.Start = search in c .args .s .now in
-    let i = let c : tie.Start = search in c .args .i in
+    let l = start .args .s .now in
+    let i = start .args .i in
     slot-stored (freedCells i (stateIn l)) _ i empty (free-cells-last .0) (clear-last .0) _ (slots-read controller l)
-    (length-map (stateIn l .cells) _ ∙ count-read controller l) (start .pre .1) (ap lay (view-lay idle)) free-cells-ensures slot-offset clear-ensures
+    (length-map (stateIn l .cells) _ ∙ count-read controller l) (start .pre .0 .1) (ap lay (view-lay idle)) free-cells-ensures slot-offset clear-ensures
+    ∙ ap (storedFreed l i) (sym (start .pre .1))
 
 pub store-freed-spec : {M : Type 1} → statement M
 store-freed-spec =

@@ -6,8 +6,8 @@ use lib.Seq.{drop-drop}
 use Rattle.wire.specs.Field.{be}
 use Rattle.slot.specs.Layout.{writeOf}
 use Rattle.slot.proofs.Entry.{first-byte}
-use Rattle.packed.proofs.entries.write_of.Statement.{statement}
-use Rattle.packed.proofs.entries.write_of.Tie as tie
+use Rattle.entries.proofs.write_of.Statement.{statement}
+use Rattle.entries.proofs.write_of.Tie as tie
 
 shared-slice-read-t4 : tie.Need-shared-slice-read-t4
 shared-slice-read-t4 c = search needs

@@ -7,8 +7,8 @@ use lib.Seq.{drop-drop, getD-drop}
 use Rattle.wire.specs.Field.{be}
 use Rattle.slot.specs.Layout.{readOf}
 use Rattle.slot.proofs.Entry.{first-byte}
-use Rattle.packed.proofs.entries.read_of.Statement.{statement}
-use Rattle.packed.proofs.entries.read_of.Tie as tie
+use Rattle.entries.proofs.read_of.Statement.{statement}
+use Rattle.entries.proofs.read_of.Tie as tie
 
 shared-slice-read-t4 : tie.Need-shared-slice-read-t4
 shared-slice-read-t4 c = search needs

@@ -8,8 +8,8 @@ use lib.ListN.{set, length-set}
 use Rattle.wire.specs.Field.{toBe}
 use Rattle.wire.proofs.Laws.Part.{splice-set, splice-next}
 use Rattle.slot.specs.Layout.{writeBytes}
-use Rattle.packed.proofs.entries.put_write_entry.Statement.{statement}
-use Rattle.packed.proofs.entries.put_write_entry.Tie as tie
+use Rattle.entries.proofs.put_write_entry.Statement.{statement}
+use Rattle.entries.proofs.put_write_entry.Tie as tie
 
 slice-write-s : tie.Need-slice-write-s
 slice-write-s c = search needs

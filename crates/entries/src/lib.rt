@@ -1,22 +1,10 @@
 // The entries of a slot's logs and its fields of one byte, each at a place of its own.
 ghost use mathlib.Core.Path.{_≡_};
-ghost use mathlib.Core.List.{[], _∷_};
 ghost use Prim.Native.Nat.{_+_, _*_, _≤_};
 ghost use lib.ListN.{length, drop};
 ghost use Rattle.wire.specs.Field.{be};
-ghost use Rattle.wire.specs.Part.{splice};
-ghost use Rattle.wire.specs.Table.{tab};
-ghost use Rattle.slot.specs.Layout.{
-  writeCapacity,
-  readSize,
-  writeSize,
-  bit,
-  readOf,
-  readBytes,
-  writeOf,
-  writeBytes,
-  startAt,
-};
+ghost use Rattle.slot.specs.Layout.{writeCapacity, readSize, writeSize, bit, startAt};
+ghost use Rattle.entries.specs.Entries.{readHere, writeHere, writeLogHere, readPut, writePut, firstPut};
 use slot::ReadEntry;
 use slot::SlotRecord;
 use slot::WriteEntry;
@@ -39,7 +27,7 @@ fn word_at(s: &[u8], at: usize) -> u32
 // The read entry at `at`.
 pub fn read_of(s: &[u8], at: usize) -> ReadEntry
     requires { ⌜ at + readSize ≤ length (now s) ⌝ }
-    ensures { λ r. ⌜ r ≡ readOf (drop at (now (s .entry))) ⌝ }
+    ensures { λ r. ⌜ r ≡ readHere at (now (s .entry)) ⌝ }
 {
     ReadEntry {
         cell: s[at],
@@ -51,7 +39,7 @@ pub fn read_of(s: &[u8], at: usize) -> ReadEntry
 // The write entry at `at`.
 pub fn write_of(s: &[u8], at: usize) -> WriteEntry
     requires { ⌜ at + writeSize ≤ length (now s) ⌝ }
-    ensures { λ r. ⌜ r ≡ writeOf (drop at (now (s .entry))) ⌝ }
+    ensures { λ r. ⌜ r ≡ writeHere at (now (s .entry)) ⌝ }
 {
     WriteEntry {
         cell: s[at],
@@ -62,7 +50,7 @@ pub fn write_of(s: &[u8], at: usize) -> WriteEntry
 // The write log at `at`.
 pub fn writes_of(s: &[u8], at: usize) -> [WriteEntry; SlotRecord::WRITES]
     requires { ⌜ at + writeSize * writeCapacity ≤ length (now s) ⌝ }
-    ensures { λ r. ⌜ r ≡ tab writeCapacity (λ i. writeOf (drop (at + writeSize * i) (now (s .entry)))) ⌝ }
+    ensures { λ r. ⌜ r ≡ writeLogHere at (now (s .entry)) ⌝ }
 {
     let mut log = [WriteEntry { cell: 0, word: 0 }; SlotRecord::WRITES];
     let mut i = 0;
@@ -84,7 +72,7 @@ pub fn put_first(
     writecount: u8,
 )
     requires { ⌜ at + startAt ≤ length (now s) ⌝ }
-    ensures { λ r. ⌜ now (s .exit) ≡ splice (now (s .entry)) at (phase ∷ bit ignoring ∷ taken ∷ readcount ∷ writecount ∷ []) ⌝ }
+    ensures { λ r. ⌜ now (s .exit) ≡ firstPut at (now (s .entry)) phase ignoring taken readcount writecount ⌝ }
 {
     s[at] = phase;
     s[at + 1] = byte_of(ignoring);
@@ -96,7 +84,7 @@ pub fn put_first(
 // Puts a read entry at `at`.
 pub fn put_read_entry(s: &mut [u8], at: usize, e: ReadEntry)
     requires { ⌜ at + readSize ≤ length (now s) ⌝ }
-    ensures { λ r. ⌜ now (s .exit) ≡ splice (now (s .entry)) at (readBytes e) ⌝ }
+    ensures { λ r. ⌜ now (s .exit) ≡ readPut at (now (s .entry)) e ⌝ }
 {
     s[at] = e.cell;
     s[at + 1] = byte_of(e.mark);
@@ -106,7 +94,7 @@ pub fn put_read_entry(s: &mut [u8], at: usize, e: ReadEntry)
 // Puts a write entry at `at`.
 pub fn put_write_entry(s: &mut [u8], at: usize, e: WriteEntry)
     requires { ⌜ at + writeSize ≤ length (now s) ⌝ }
-    ensures { λ r. ⌜ now (s .exit) ≡ splice (now (s .entry)) at (writeBytes e) ⌝ }
+    ensures { λ r. ⌜ now (s .exit) ≡ writePut at (now (s .entry)) e ⌝ }
 {
     s[at] = e.cell;
     wire::put(s, at + 1, 4, e.word as u64);

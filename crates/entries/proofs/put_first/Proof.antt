@@ -7,8 +7,8 @@ use borrow.Author.Needs.{needs}
 use lib.ListN.{length, set, length-set}
 use Rattle.wire.specs.Part.{splice}
 use Rattle.wire.proofs.Laws.Part.{splice-set, splice-store}
-use Rattle.packed.proofs.entries.put_first.Statement.{statement}
-use Rattle.packed.proofs.entries.put_first.Tie as tie
+use Rattle.entries.proofs.put_first.Statement.{statement}
+use Rattle.entries.proofs.put_first.Tie as tie
 
 slice-write-s : tie.Need-slice-write-s
 slice-write-s c = search needs

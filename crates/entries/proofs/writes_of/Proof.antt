@@ -7,8 +7,8 @@ use lib.ListN.{drop, replicate}
 use Rattle.wire.specs.Table.{tab}
 use Rattle.wire.proofs.Laws.Table.{fill-start, fill-step, fill-end}
 use Rattle.slot.specs.Layout.{noWrite, writeOf, writeSize}
-use Rattle.packed.proofs.entries.writes_of.Statement.{statement}
-use Rattle.packed.proofs.entries.writes_of.Tie as tie
+use Rattle.entries.proofs.writes_of.Statement.{statement}
+use Rattle.entries.proofs.writes_of.Tie as tie
 
 abbrev Inv-loop : tie.InvT-loop
 Inv-loop s at log₀ i₀ log i = (i ≤ 16) × (log ≡ tab i (λ j. writeOf (drop (at + writeSize * j) s)) ++ drop i (replicate 16 noWrite))
