@@ -37,7 +37,7 @@ storedWrites l i v = stored l i (clockIn l) (stateIn l .cells) (withReadsOf (rec
 abbrev pub storedReadsClock : List ℕ → ℕ → SlotRecord → ℕ → List ℕ
 storedReadsClock l i v clock = stored l i clock (stateIn l .cells) (withWritesOf (recordAt l i) v)
 
--- the record as it is, with all cells freed that the slot holds
+-- all cells freed that the slot holds
 abbrev pub storedFreed : List ℕ → ℕ → SlotRecord → List ℕ
 storedFreed l i v = stored l i (clockIn l) (freeAll i (stateIn l .cells)) v
 

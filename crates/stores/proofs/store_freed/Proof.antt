@@ -30,16 +30,14 @@ same-length c = search needs
 returns : tie.Need-returns
 unfolding freeAll
 returns c =
-    let start = let c : tie.Start = search in c in
-    let slot-offset = let c : tie.After-slot-offset = search in c .slot-offset .ensures in
-    let free-cells-last = let c : tie.After-free-cells = search in c .free-cells .last in
-    let free-cells-ensures = let c : tie.After-free-cells = search in c .free-cells .ensures in
-    let clear-last = let c : tie.After-clear = search in c .clear .last in
-    let clear-ensures = let c : tie.After-clear = search in c .clear .ensures in
+    let clear = let c : tie.After-clear = search in c .clear in
+    let freed = let c : tie.After-free-cells = search in c .free-cells in
+    let place = let c : tie.After-slot-offset = search in c .slot-offset .ensures in
+    let start = let c : tie.After-slot-offset = search in let c : tie.Start = search in c in
     let l = start .args .s .now in
     let i = start .args .i in
-    slot-stored (freedCells i (stateIn l)) _ i empty (free-cells-last .0) (clear-last .0) _ (slots-read controller l)
-    (length-map (stateIn l .cells) _ ∙ count-read controller l) (start .pre .0 .1) (ap lay (view-lay idle)) free-cells-ensures slot-offset clear-ensures
+    slot-stored (freedCells i (stateIn l)) _ i empty (freed .last .0) (clear .last .0) _ (slots-read controller l)
+    (length-map (stateIn l .cells) _ ∙ count-read controller l) (start .pre .0 .1) (ap lay (view-lay idle)) (freed .ensures) place (clear .ensures)
     ∙ ap (storedFreed l i) (sym (start .pre .1))
 
 pub store-freed-spec : {M : Type 1} → statement M
