@@ -1,11 +1,12 @@
 // The fourteen steps on a lent area: a step is taken by its row, once its number and its slot are found to be right.
+ghost use mathlib.Core.Path.{_≡_};
 ghost use Prim.Native.Nat.{_<_};
 ghost use Rattle.rules.specs.Model.{controller};
 ghost use Rattle.rules.specs.Layout.{stateOf};
 ghost use Rattle.rules.specs.Step as rule;
 ghost use Rattle.area.specs.Good.{Good};
 ghost use Rattle.ways.specs.Did.{Did};
-ghost use Rattle.dispatch.specs.Without.{withoutStep};
+ghost use Rattle.dispatch.specs.Without.{withoutSlot};
 use call::Decoded;
 use call::Reply;
 use call::Step;
@@ -33,48 +34,33 @@ fn row(s: &mut [u8], i: u8, step: Step) -> Reply
     }
 }
 
-// A call that decodes to no step: a write or an update without a value gets 6 in its place, and anything else has a number that no step has.
-fn without_step(s: &mut [u8], slot: u8, d: Decoded) -> Reply
-    requires { ⌜ Good (now s) ⌝ }
-    ensures { λ r. ⌜ Did (withoutStep (stateOf controller (now (s .entry))) slot d) (now (s .entry)) r (now (s .exit)) ⌝ }
+// A call of a slot that is not there. A wrong step number comes before it: the lowest code is given.
+fn without_slot(d: Decoded) -> Reply
+    ensures { λ r. ⌜ r ≡ withoutSlot d ⌝ }
 {
     match d {
-        Decoded::IllegalWrite(cell) => {
-            if slot == 0 {
-                return Reply::NoSuchSlot;
-            }
-            if 8 < slot {
-                return Reply::NoSuchSlot;
-            }
-            writing::illegal_write(s, slot - 1, cell)
-        }
-        Decoded::IllegalUpdate(cell) => {
-            if slot == 0 {
-                return Reply::NoSuchSlot;
-            }
-            if 8 < slot {
-                return Reply::NoSuchSlot;
-            }
-            writing::illegal_update(s, slot - 1, cell)
-        }
-        Decoded::Made(_) => Reply::NoSuchStep,
         Decoded::Unknown => Reply::NoSuchStep,
+        _ => Reply::NoSuchSlot,
     }
 }
 
-// What a decoded call makes. Wrong step and slot numbers get codes.
+// What a decoded call makes. Wrong step and slot numbers get codes; a write or an update without a value gets 6 in its place.
 pub fn step(s: &mut [u8], slot: u8, d: Decoded) -> Reply
     requires { ⌜ Good (now s) ⌝ }
     ensures { λ r. ⌜ Did (rule.stepOf controller (stateOf controller (now (s .entry))) slot d) (now (s .entry)) r (now (s .exit)) ⌝ }
 {
+    if slot == 0 || 8 < slot {
+        return without_slot(d);
+    }
+    let i = slot - 1;
+    if let Decoded::IllegalWrite(cell) = d {
+        return writing::illegal_write(s, i, cell);
+    }
+    if let Decoded::IllegalUpdate(cell) = d {
+        return writing::illegal_update(s, i, cell);
+    }
     let Decoded::Made(made) = d else {
-        return without_step(s, slot, d);
+        return Reply::NoSuchStep;
     };
-    if slot == 0 {
-        return Reply::NoSuchSlot;
-    }
-    if 8 < slot {
-        return Reply::NoSuchSlot;
-    }
-    row(s, slot - 1, made)
+    row(s, i, made)
 }
