@@ -33,13 +33,15 @@ add-if2-2 c = search needs
 returns-2 : tie.Need-returns-2
 unfolding goodSheet
 returns-2 c =
-    let args = c .before .before .before .before .before .before .args in
-    let pair = c .before .before .before .before .pair in
-    let pair2 = c .before .before .before .pair2 in
+    let byte = let c : tie.After-byte = search in c .byte .ensures in
+    let if1 = let c : tie.Else1 = search in c .if1 .left in
+    let args = let c : tie.Start = search in c .args in
+    let pair = let c : tie.After-pair = search in c .pair in
+    let pair2 = let c : tie.After-pair2 = search in c .pair2 in
     let s = args .s .now in
     let p = pair .ensures .0 in
     let q = pair2 .ensures .0 in
-    bad s (goes-on _ _ (eq-eqb _ _ (sym (c .before .before .byte .ensures) ∙ c .before .if1 .left)) (fails _ _ (not-whole s _ _ p q (c .if2 .taken))))
+    bad s (goes-on _ _ (eq-eqb _ _ (sym byte ∙ if1)) (fails _ _ (not-whole s _ _ p q (c .if2 .taken))))
 
 described-right-requires : tie.Need-described-right-requires
 described-right-requires c κs = search needs
@@ -47,15 +49,17 @@ described-right-requires c κs = search needs
 returns-3 : tie.Need-returns-3
 unfolding goodSheet
 returns-3 c =
-    let args = c .before .before .before .before .before .before .before .before .args in
-    let pair = c .before .before .before .before .before .before .pair in
-    let pair2 = c .before .before .before .before .before .pair2 in
-    let byte = c .before .before .before .before .byte in
-    let if1 = c .before .before .before .if1 in
+    let if2 = let c : tie.Else2 = search in c .if2 .left in
+    let described-right = let c : tie.After-described-right = search in c .described-right .ensures in
+    let args = let c : tie.Start = search in c .args in
+    let pair = let c : tie.After-pair = search in c .pair in
+    let pair2 = let c : tie.After-pair2 = search in c .pair2 in
+    let byte = let c : tie.After-byte = search in c .byte in
+    let if1 = let c : tie.Else1 = search in c .if1 in
     let s = args .s .now in
     let p = pair .ensures .0 in
     let q = pair2 .ensures .0 in
-    bad s (goes-on _ _ (eq-eqb _ _ (sym (byte .ensures) ∙ if1 .left)) (goes-on _ _ (whole s _ _ p q (c .before .before .if2 .left)) (fails _ _ (described-test s _ _ p q (c .before .described-right .ensures) (not-true _ (c .if3 .taken))))))
+    bad s (goes-on _ _ (eq-eqb _ _ (sym (byte .ensures) ∙ if1 .left)) (goes-on _ _ (whole s _ _ p q if2) (fails _ _ (described-test s _ _ p q described-right (not-true _ (c .if3 .taken))))))
 
 steps-right-requires : tie.Need-steps-right-requires
 steps-right-requires c κs = search needs
@@ -63,17 +67,19 @@ steps-right-requires c κs = search needs
 returns-4 : tie.Need-returns-4
 unfolding goodSheet
 returns-4 c =
-    let args = c .before .before .before .before .before .before .before .before .before .before .args in
-    let pair = c .before .before .before .before .before .before .before .before .pair in
-    let pair2 = c .before .before .before .before .before .before .before .pair2 in
-    let byte = c .before .before .before .before .before .before .byte in
-    let if1 = c .before .before .before .before .before .if1 in
-    let if2 = c .before .before .before .before .if2 in
-    let described-right = c .before .before .before .described-right in
+    let if3 = let c : tie.Else3 = search in c .if3 .left in
+    let steps-right = let c : tie.After-steps-right = search in c .steps-right .ensures in
+    let args = let c : tie.Start = search in c .args in
+    let pair = let c : tie.After-pair = search in c .pair in
+    let pair2 = let c : tie.After-pair2 = search in c .pair2 in
+    let byte = let c : tie.After-byte = search in c .byte in
+    let if1 = let c : tie.Else1 = search in c .if1 in
+    let if2 = let c : tie.Else2 = search in c .if2 in
+    let described-right = let c : tie.After-described-right = search in c .described-right in
     let s = args .s .now in
     let p = pair .ensures .0 in
     let q = pair2 .ensures .0 in
-    bad s (goes-on _ _ (eq-eqb _ _ (sym (byte .ensures) ∙ if1 .left)) (goes-on _ _ (whole s _ _ p q (if2 .left)) (goes-on _ _ (described-test s _ _ p q (described-right .ensures) (not-false _ (c .before .before .if3 .left))) (fails _ _ (steps-test s _ _ p q (c .before .steps-right .ensures) (not-true _ (c .if4 .taken)))))))
+    bad s (goes-on _ _ (eq-eqb _ _ (sym (byte .ensures) ∙ if1 .left)) (goes-on _ _ (whole s _ _ p q (if2 .left)) (goes-on _ _ (described-test s _ _ p q (described-right .ensures) (not-false _ if3)) (fails _ _ (steps-test s _ _ p q steps-right (not-true _ (c .if4 .taken)))))))
 
 add-all-legal : tie.Need-add-all-legal
 add-all-legal c = search needs
@@ -93,20 +99,21 @@ all-legal-requires c κs = search needs
 returns-5 : tie.Need-returns-5
 unfolding goodSheet
 returns-5 c =
-    let args = c .before .before .before .before .before .before .before .before .before .before .before .before .before .args in
-    let pair = c .before .before .before .before .before .before .before .before .before .before .before .pair in
-    let pair2 = c .before .before .before .before .before .before .before .before .before .before .pair2 in
-    let byte = c .before .before .before .before .before .before .before .before .before .byte in
-    let if1 = c .before .before .before .before .before .before .before .before .if1 in
-    let if2 = c .before .before .before .before .before .before .before .if2 in
-    let described-right = c .before .before .before .before .before .before .described-right in
-    let if3 = c .before .before .before .before .before .if3 in
-    let steps-right = c .before .before .before .before .steps-right in
-    let if4 = c .before .before .before .if4 in
+    let all-legal = let c : tie.After-all-legal = search in c .all-legal .ensures in
+    let args = let c : tie.After-all-legal = search in let c : tie.Start = search in c .args in
+    let pair = let c : tie.After-pair = search in c .pair in
+    let pair2 = let c : tie.After-pair2 = search in c .pair2 in
+    let byte = let c : tie.After-byte = search in c .byte in
+    let if1 = let c : tie.Else1 = search in c .if1 in
+    let if2 = let c : tie.Else2 = search in c .if2 in
+    let described-right = let c : tie.After-described-right = search in c .described-right in
+    let if3 = let c : tie.Else3 = search in c .if3 in
+    let steps-right = let c : tie.After-steps-right = search in c .steps-right in
+    let if4 = let c : tie.Else4 = search in c .if4 in
     let s = args .s .now in
     let p = pair .ensures .0 in
     let q = pair2 .ensures .0 in
-    bad s (goes-on _ _ (eq-eqb _ _ (sym (byte .ensures) ∙ if1 .left)) (goes-on _ _ (whole s _ _ p q (if2 .left)) (goes-on _ _ (described-test s _ _ p q (described-right .ensures) (not-false _ (if3 .left))) (goes-on _ _ (steps-test s _ _ p q (steps-right .ensures) (not-false _ (if4 .left))) (legal-test s _ _ p q (c .before .all-legal .ensures) (not-true _ (c .if5 .taken)))))))
+    bad s (goes-on _ _ (eq-eqb _ _ (sym (byte .ensures) ∙ if1 .left)) (goes-on _ _ (whole s _ _ p q (if2 .left)) (goes-on _ _ (described-test s _ _ p q (described-right .ensures) (not-false _ (if3 .left))) (goes-on _ _ (steps-test s _ _ p q (steps-right .ensures) (not-false _ (if4 .left))) (legal-test s _ _ p q all-legal (not-true _ (c .if5 .taken)))))))
 
 add-t4 : tie.Need-add-t4
 add-t4 c = search needs
@@ -114,20 +121,21 @@ add-t4 c = search needs
 returns-6 : tie.Need-returns-6
 unfolding goodSheet
 returns-6 c =
-    let args = c .before .before .before .before .before .before .before .before .before .before .before .before .before .args in
-    let pair = c .before .before .before .before .before .before .before .before .before .before .before .pair in
-    let pair2 = c .before .before .before .before .before .before .before .before .before .before .pair2 in
-    let byte = c .before .before .before .before .before .before .before .before .before .byte in
-    let if1 = c .before .before .before .before .before .before .before .before .if1 in
-    let if2 = c .before .before .before .before .before .before .before .if2 in
-    let described-right = c .before .before .before .before .before .before .described-right in
-    let if3 = c .before .before .before .before .before .if3 in
-    let steps-right = c .before .before .before .before .steps-right in
-    let if4 = c .before .before .before .if4 in
+    let all-legal = let c : tie.After-all-legal = search in c .all-legal .ensures in
+    let args = let c : tie.After-all-legal = search in let c : tie.Start = search in c .args in
+    let pair = let c : tie.After-pair = search in c .pair in
+    let pair2 = let c : tie.After-pair2 = search in c .pair2 in
+    let byte = let c : tie.After-byte = search in c .byte in
+    let if1 = let c : tie.Else1 = search in c .if1 in
+    let if2 = let c : tie.Else2 = search in c .if2 in
+    let described-right = let c : tie.After-described-right = search in c .described-right in
+    let if3 = let c : tie.Else3 = search in c .if3 in
+    let steps-right = let c : tie.After-steps-right = search in c .steps-right in
+    let if4 = let c : tie.Else4 = search in c .if4 in
     let s = args .s .now in
     let p = pair .ensures .0 in
     let q = pair2 .ensures .0 in
-    good s _ _ p q (goes-on _ _ (eq-eqb _ _ (sym (byte .ensures) ∙ if1 .left)) (goes-on _ _ (whole s _ _ p q (if2 .left)) (goes-on _ _ (described-test s _ _ p q (described-right .ensures) (not-false _ (if3 .left))) (goes-on _ _ (steps-test s _ _ p q (steps-right .ensures) (not-false _ (if4 .left))) (legal-test s _ _ p q (c .before .all-legal .ensures) (not-false _ (c .if5 .left)))))))
+    good s _ _ p q (goes-on _ _ (eq-eqb _ _ (sym (byte .ensures) ∙ if1 .left)) (goes-on _ _ (whole s _ _ p q (if2 .left)) (goes-on _ _ (described-test s _ _ p q (described-right .ensures) (not-false _ (if3 .left))) (goes-on _ _ (steps-test s _ _ p q (steps-right .ensures) (not-false _ (if4 .left))) (legal-test s _ _ p q all-legal (not-false _ (c .if5 .left)))))))
 
 pub take-apart-spec : {M : Type 1} → statement M
 take-apart-spec =

@@ -21,7 +21,7 @@ cast-result c = search needs
 
 returns : tie.Need-returns
 returns c =
-    let args = c .before .before .before .args in
+    let args = let c : tie.Start = search in c .args in
     rw (c .before .pair .ensures .0, c .pair2 .ensures .0) (word-at (args .s .now))
 
 pub word-spec : {M : Type 1} → statement M

@@ -43,12 +43,15 @@ shared-slice-read-n : tie.Need-shared-slice-read-n Inv-loop μ-loop
 shared-slice-read-n c = omega arith
 
 cast-n : tie.Need-cast-n Inv-loop μ-loop
-cast-n c = omega (arith, c .shared-slice-known .given (c .before .before .before .args .at + c .before .before .loop .i))
+cast-n c =
+    let start = let c : tie.Start Inv-loop μ-loop = search in c in
+    let loop = let c : tie.At-loop Inv-loop μ-loop = search in c .loop .i in
+    omega (arith, c .shared-slice-known .given (start .args .at + loop))
 
 add-n-2 : tie.Need-add-n-2 Inv-loop μ-loop
 add-n-2 c =
-    let args = c .before .before .before .args in
-    let loop = c .before .before .loop in
+    let args = let c : tie.Start Inv-loop μ-loop = search in c .args in
+    let loop = let c : tie.At-loop Inv-loop μ-loop = search in c .loop in
     let known = c .shared-slice-known in
     omega (arith, room (loop .n) (loop .i) (omega arith) (loop .inv .1), known .given (args .at + loop .i))
 
@@ -60,8 +63,8 @@ loop-less c = omega arith
 
 loop-again : tie.Need-loop-again Inv-loop μ-loop
 loop-again c =
-    let args = c .before .before .before .args in
-    let loop = c .before .before .loop in
+    let args = let c : tie.Start Inv-loop μ-loop = search in c .args in
+    let loop = let c : tie.At-loop Inv-loop μ-loop = search in c .loop in
     let known = c .shared-slice-known in
     let byte : getD (args .s .now) (args .at + loop .i) 0 < 256 = omega (arith, known .given (args .at + loop .i)) in (
       omega arith,
@@ -71,8 +74,10 @@ loop-again c =
 
 returns : tie.Need-returns Inv-loop μ-loop
 returns c =
-    let whole : c .before .loop .i ≡ c .before .before .args .width = omega arith in
-    rw (← whole) (c .before .loop .inv .2)
+    let start = let c : tie.Start Inv-loop μ-loop = search in c in
+    let loop = let c : tie.At-loop Inv-loop μ-loop = search in c .loop in
+    let whole : (loop .i) ≡ start .args .width = omega arith in
+    rw (← whole) (loop .inv .2)
 
 pub get-spec : {M : Type 1} → statement M
 get-spec =
