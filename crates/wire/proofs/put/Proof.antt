@@ -57,7 +57,7 @@ loop-again c =
     let args = let c : tie.Start Inv-loop μ-loop = search in c .args in
     let loop = c .before .loop in (
       omega arith,
-      length-set (loop .s) (args .at + (loop .k - 1)) (loop .n % 256) ∙ loop .inv .1,
+      length-set (loop .s) _ _ ∙ loop .inv .1,
       turn (loop .s) (args .at) (loop .k) (loop .n) (omega arith) (omega arith) ∙ loop .inv .2,
     )
 

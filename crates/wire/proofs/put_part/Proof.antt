@@ -47,7 +47,7 @@ loop-again c =
     let args = let c : tie.Start Inv-loop μ-loop = search in c .args in
     let loop = let c : tie.At-loop Inv-loop μ-loop = search in c .loop in (
       omega arith,
-      length-set (loop .s) (args .at + loop .i) (getD (args .part .now) (loop .i) 0) ∙ loop .inv .1,
+      length-set (loop .s) _ _ ∙ loop .inv .1,
       turn (args .s .now) (args .at) (args .part .now) (loop .i) (loop .s) (omega arith) (omega arith) (loop .inv .2),
     )
 
