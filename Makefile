@@ -18,7 +18,7 @@ LINKED := oracle/linked/target/release
 PROGRAM := target/bin/run
 SECOND := oracle/target/release
 # the crates that ask nothing of a caller
-BOUNDARIES := value call line sheet run crocktendril
+BOUNDARIES := value call line apart sheet run crocktendril
 
 .PHONY: test lib program example guide fuzz bench run sheet timeline second linked linked-test sheets-test
 

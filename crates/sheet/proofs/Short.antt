@@ -22,9 +22,9 @@ use Rattle.rules.specs.Area.{stepOnBytes}
 use Rattle.crocktendril.specs.Contract.{Stepped}
 use Rattle.crocktendril.proofs.Demands.{demand1}
 use Rattle.sheet.specs.Output.{callAt, stepCount, areaAfter, endArea, stepLine, lineInArea, printed, firstArea, badSheet, output}
-use Rattle.sheet.specs.Apart.{steps, goodSheet}
+use Rattle.apart.specs.Apart.{steps, goodSheet}
 use Rattle.sheet.specs.Whole.{LongIsBad}
-use Rattle.sheet.proofs.Apart.{good-parts}
+use Rattle.apart.proofs.Apart.{good-parts}
 
 -- n lines of at most `size` bytes
 cat-short : (size n : ℕ) (f : ℕ → List ℕ) → ((i : ℕ) → i < n → length (f i) ≤ size) → length (cat n f) ≤ size * n

@@ -2,7 +2,7 @@
 use mathlib.Core.Path.{sym, _∙_}
 use native.Mathlib.Omega.{arith}
 use lib.Seq.{length-take-le}
-use Rattle.sheet.proofs.Apart.{apart-good, apart-bad}
+use Rattle.apart.proofs.Apart.{apart-good, apart-bad}
 use Rattle.sheet.proofs.Whole.{short-area, short-out, bad-run, good-run}
 use borrow.Author.Needs.{needs}
 use Rattle.sheet.proofs.run_sheet.Statement.{statement}

@@ -1,8 +1,8 @@
 -- `word` meets its contract: four bytes are two pairs.
-use Rattle.sheet.proofs.Reading.{word-at}
+use Rattle.apart.proofs.Reading.{word-at}
 use borrow.Author.Needs.{needs}
-use Rattle.sheet.proofs.word.Statement.{statement}
-use Rattle.sheet.proofs.word.Tie as tie
+use Rattle.apart.proofs.word.Statement.{statement}
+use Rattle.apart.proofs.word.Tie as tie
 
 pair-requires : tie.Need-pair-requires
 pair-requires c κs = search needs

@@ -11,10 +11,10 @@ use Rattle.wire.proofs.Laws.Field.{be-bound, bytes-drop}
 use Rattle.area.specs.Laid.{legalCell}
 use Rattle.area.proofs.Laid.{described-length}
 use Rattle.area.proofs.Scan.{all-failed, all-passed, all-tested}
-use Rattle.sheet.specs.Apart.{descriptionsLegal}
-use Rattle.sheet.proofs.Reading.{described-test}
-use Rattle.sheet.proofs.all_legal.Statement.{statement}
-use Rattle.sheet.proofs.all_legal.Tie as tie
+use Rattle.apart.specs.Apart.{descriptionsLegal}
+use Rattle.apart.proofs.Reading.{described-test}
+use Rattle.apart.proofs.all_legal.Statement.{statement}
+use Rattle.apart.proofs.all_legal.Tie as tie
 
 abbrev Inv-loop : tie.InvT-loop
 Inv-loop ds n k₀ k = (k ≤ n) × (descriptionsLegal ds ≡ all legalCell (drop k (describedCells ds)))

@@ -1,12 +1,12 @@
 -- `take_apart` meets its contract: the tests are the definition's, in its order.
 use mathlib.Core.Path.{sym, _∙_}
 use borrow.Author.Tests.{eq-eqb, ne-eqb, not-true, not-false}
-use Rattle.sheet.specs.Apart.{goodSheet}
-use Rattle.sheet.proofs.Tests.{fails, goes-on}
-use Rattle.sheet.proofs.Apart.{bad, whole, not-whole, described-test, steps-test, legal-test, good}
+use Rattle.apart.specs.Apart.{goodSheet}
+use Rattle.apart.proofs.Tests.{fails, goes-on}
+use Rattle.apart.proofs.Apart.{bad, whole, not-whole, described-test, steps-test, legal-test, good}
 use borrow.Author.Needs.{needs}
-use Rattle.sheet.proofs.take_apart.Statement.{statement}
-use Rattle.sheet.proofs.take_apart.Tie as tie
+use Rattle.apart.proofs.take_apart.Statement.{statement}
+use Rattle.apart.proofs.take_apart.Tie as tie
 
 pair-requires : tie.Need-pair-requires
 pair-requires c κs = search needs

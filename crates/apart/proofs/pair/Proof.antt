@@ -1,9 +1,9 @@
 -- `pair` meets its contract: past the end both bytes are 0.
 use native.Mathlib.Omega.{arith}
-use Rattle.sheet.proofs.Reading.{pair-at, pair-past}
+use Rattle.apart.proofs.Reading.{pair-at, pair-past}
 use borrow.Author.Needs.{needs}
-use Rattle.sheet.proofs.pair.Statement.{statement}
-use Rattle.sheet.proofs.pair.Tie as tie
+use Rattle.apart.proofs.pair.Statement.{statement}
+use Rattle.apart.proofs.pair.Tie as tie
 
 returns : tie.Need-returns
 returns c =
