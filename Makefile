@@ -22,7 +22,7 @@ LINKED := oracle/linked/target/release
 PROGRAM := target/bin/run
 SECOND := oracle/target/release
 # the crates that ask nothing of a caller
-BOUNDARIES := value call line sheet run crocktendril
+BOUNDARIES := value call line apart sheet run crocktendril
 # the blocks of the guide that are marked so, one behind the other
 blocks = awk '/^```$(1)$$/ { on = 1; next } /^```$$/ { on = 0 } on' docs/GUIDE.md
 

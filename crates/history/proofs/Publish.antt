@@ -29,7 +29,7 @@ use Rattle.history.proofs.Right.{Right}
 use Rattle.history.proofs.Keeps.Lists.{set-elim}
 use Rattle.history.proofs.Keeps.Logs.{published-one, published-once}
 use Rattle.history.proofs.Invariant.{LateWrite, Owes, LogKnown, ReadsKnown, Inv, Stable, turned, turned-own, turned-other}
-use Rattle.history.proofs.Replay.{written}
+use Rattle.history.proofs.Replay.{writer-leaves}
 use Rattle.history.proofs.Holders.{one-holder, owes-holds}
 use Rattle.history.proofs.Turn.{reads-stay}
 use Rattle.history.proofs.Commit.{some-written, owing-case, owing-owes, owing-late, owing-log, owing-reads}
@@ -147,7 +147,7 @@ module _ (begun : ℕ → ℕ) (M : Model) (logs : ℕ → List WriteEntry) (S :
   next-words =
       cell-case (λ c (y : Cell). c < cellCount S → upTo logs begun (y .stamp) c ≡ y .word)
       (λ h.
-      written logs begun commit (getD writes count noWrite .cell) (getD writes count noWrite) positive
+      writer-leaves logs begun commit (getD writes count noWrite .cell) (getD writes count noWrite) positive
       (ap (λ (l : List WriteEntry). writeEntry l (getD writes count noWrite .cell)) log ∙ found-at writes count missing ascends))
       (λ c other h. inv .words c h)
 

@@ -38,8 +38,8 @@ quiet g begun a (suc b) c h q = by (eqb a (suc b)) refl (λ l. quiet g begun a b
         ap (λ (o : Option WriteEntry). wordOr o (upTo g begun b c)) (lacks (g (suc b)) c (q (suc b) (omega (arith, differs)) (omega arith)))
         ∙ earlier (omega (arith, differs))
 
--- written: the stamp that writes the cell leaves what it wrote
-pub written : (g : ℕ → List WriteEntry) (begun : ℕ → ℕ) (k c : ℕ) (e : WriteEntry) → 0 < k → writeEntry (g k) c ≡ some e → upTo g begun k c ≡ e .word
+-- writer leaves: the stamp that writes the cell leaves what it wrote
+pub writer-leaves : (g : ℕ → List WriteEntry) (begun : ℕ → ℕ) (k c : ℕ) (e : WriteEntry) → 0 < k → writeEntry (g k) c ≡ some e → upTo g begun k c ≡ e .word
 unfolding upTo
-written g begun zero c e h w = absurd (omega arith)
-written g begun (suc k) c e h w = ap (λ (o : Option WriteEntry). wordOr o (upTo g begun k c)) w
+writer-leaves g begun zero c e h w = absurd (omega arith)
+writer-leaves g begun (suc k) c e h w = ap (λ (o : Option WriteEntry). wordOr o (upTo g begun k c)) w

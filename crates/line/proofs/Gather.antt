@@ -15,7 +15,7 @@ use Rattle.wire.proofs.Laws.Part.{splice-nil, splice-next, take-splice-part, le
 use Rattle.line.specs.declared.Put.{Put}
 use Rattle.line.specs.declared.Put.the-variants.{End, Short}
 use Rattle.line.specs.declared.Style.{Style}
-use Rattle.line.specs.Number.{baseOf, leastOf, written}
+use Rattle.line.specs.Number.{baseOf, leastOf, numeral}
 use Rattle.line.proofs.Number.{digits-most}
 use Rattle.line.specs.Gather.{putAnswer, putBytes, Puts, endOf, Gathered, gathered, added, addedAll, Leaves}
 
@@ -99,9 +99,9 @@ held-next part {k} {at} {r} {z} {parts} {s} {t} held fits size next =
 
 -- a number and the byte after it are at most 21 bytes
 pub held-number : (style : Style) (n after : ℕ) {k at r : ℕ} {z parts s t : List ℕ} → Held k z parts at s → 21 * (k + 1) ≤ length z
-    → Leaves (added (gathered at s) (written style n ++ (after ∷ []))) r t → Held (k + 1) z (parts ++ (written style n ++ (after ∷ []))) r t
+    → Leaves (added (gathered at s) (numeral style n ++ (after ∷ []))) r t → Held (k + 1) z (parts ++ (numeral style n ++ (after ∷ []))) r t
 held-number style n after held fits next =
-    held-next (written style n ++ (after ∷ [])) held fits (rw length-append (omega (arith, digits-most (baseOf style) (leastOf style) 20 n))) next
+    held-next (numeral style n ++ (after ∷ [])) held fits (rw length-append (omega (arith, digits-most (baseOf style) (leastOf style) 20 n))) next
 
 pub held-taken : {k at : ℕ} {z parts s : List ℕ} → Held k z parts at s → 21 * k ≤ length z → take at s ≡ parts
 held-taken {k} {at} {z} {parts} {s} held fits = rw (held .leaves .end, held .leaves .bytes) (front-taken z parts (omega (arith, held .short)))

@@ -11,7 +11,7 @@ use lib.ListN.{length, take, drop, set, length-append, length-drop, length-set, 
 use lib.Seq.{length-take-le, set-at, drop-at, take-all, drop-cons, getD-set-same, drop-set-lt}
 use Rattle.line.specs.declared.Style.{Style}
 use Rattle.line.specs.declared.Style.the-variants.{Decimal, Hex}
-use Rattle.line.specs.Number.{digit, digits, baseOf, written}
+use Rattle.line.specs.Number.{digit, digits, baseOf, numeral}
 use Rattle.line.specs.Spelt.{digitsFor, Spelt}
 
 pub base-positive : (style : Style) → 1 ≤ baseOf style
@@ -91,7 +91,7 @@ ending text style n base least i rest now h long front none so =
 
 -- a number spelt to the end of 20 bytes, and a byte after them: what stands from its first digit on
 pub spelt-field : (z e : List ℕ) (style : Style) (n r after : ℕ) → length z ≡ 20 → Spelt z style n r e
-    → take (21 - r) (drop r (set (e ++ (0 ∷ [])) 20 after)) ≡ written style n ++ (after ∷ [])
+    → take (21 - r) (drop r (set (e ++ (0 ∷ [])) 20 after)) ≡ numeral style n ++ (after ∷ [])
 spelt-field z e style n r after long spelt =
     let d = digitsFor z style n in
     let begins : r ≤ length z = omega (arith, spelt .first) in

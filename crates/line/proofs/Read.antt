@@ -10,7 +10,7 @@ use borrow.Author.Tests.{eqb-true}
 use lib.Dec.{eqb, lit<, lit≤}
 use Rattle.line.specs.declared.Style.{Style}
 use Rattle.line.specs.declared.Style.the-variants.{Decimal, Hex}
-use Rattle.line.specs.Number.{digit, digits, baseOf, written}
+use Rattle.line.specs.Number.{digit, digits, baseOf, numeral}
 use Rattle.line.specs.Read.{digitValue, readFrom}
 
 -- a test of every number below n, and what it shows of each
@@ -59,6 +59,6 @@ module _ (base : ℕ) (pos : 0 < base) (small : base ≤ 16) where
   read-digits (suc least) (suc most) n h =
       last n (digits base least most (n / base)) (read-digits least most (n / base) (div-lt-iff-lt-mul pos .1 (rw pow-suc at h)))
 
-pub written-back : (style : Style) (n : ℕ) → n < 2 ^ 64 → readFrom (baseOf style) 0 (written style n) ≡ n
-written-back Decimal n h = read-digits 10 (lit< tt) (omega arith) 1 20 n (lt-of-lt-of-le h (lit≤ tt))
-written-back Hex n h = read-digits 16 (lit< tt) (omega arith) 8 20 n (lt-of-lt-of-le h (lit≤ tt))
+pub numeral-back : (style : Style) (n : ℕ) → n < 2 ^ 64 → readFrom (baseOf style) 0 (numeral style n) ≡ n
+numeral-back Decimal n h = read-digits 10 (lit< tt) (omega arith) 1 20 n (lt-of-lt-of-le h (lit≤ tt))
+numeral-back Hex n h = read-digits 16 (lit< tt) (omega arith) 8 20 n (lt-of-lt-of-le h (lit≤ tt))

@@ -33,11 +33,11 @@ leastOf Hex = 8
 abbrev pub mostDigits : ℕ
 mostDigits = 20
 
-abbrev pub written : Style → ℕ → List ℕ
-written style n = digits (baseOf style) (leastOf style) mostDigits n
+abbrev pub numeral : Style → ℕ → List ℕ
+numeral style n = digits (baseOf style) (leastOf style) mostDigits n
 
 abbrev pub decimal : ℕ → List ℕ
-decimal n = written Decimal n
+decimal n = numeral Decimal n
 
 abbrev pub hex : ℕ → List ℕ
-hex n = written Hex n
+hex n = numeral Hex n

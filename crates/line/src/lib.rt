@@ -5,7 +5,7 @@ ghost use mathlib.Core.Path.{_≡_};
 ghost use Prim.Native.Nat.{_-_};
 ghost use lib.Dec.{eqb};
 ghost use lib.ListN.{take};
-ghost use Rattle.line.specs.Number.{digit as digitOf, baseOf, leastOf, written};
+ghost use Rattle.line.specs.Number.{digit as digitOf, baseOf, leastOf, numeral};
 ghost use Rattle.line.specs.Line.{answerLine, cellLine, clockLine};
 ghost use Rattle.line.specs.Gather.{Puts, Leaves, endOf, gathered, added};
 ghost use Rattle.line.specs.Spelt.{Spelt};
@@ -143,7 +143,7 @@ fn put_front(s: &mut [u8], at: usize, text: &[u8], count: usize) -> Put
 
 // Adds a number and the byte after it.
 fn add_number(s: &mut [u8], at: usize, style: Style, number: u64, after: u8) -> usize
-    ensures { λ r. ⌜ Leaves (added (gathered at (now (s .entry))) (written style number ++ (after ∷ []))) r (now (s .exit)) ⌝ }
+    ensures { λ r. ⌜ Leaves (added (gathered at (now (s .entry))) (numeral style number ++ (after ∷ []))) r (now (s .exit)) ⌝ }
 {
     let mut text = [0u8; 21];
     let first = spell(&mut text[..MOST], style, number);

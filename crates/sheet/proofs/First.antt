@@ -19,9 +19,9 @@ use Rattle.rules.proofs.Controller.{controller-fits}
 use Rattle.rules.proofs.LaidOut.{laid-right, lays-out}
 use Rattle.rules.proofs.RoundTrip.{pack-right, round-trip}
 use Rattle.history.proofs.Keeps.{keeps}
-use Rattle.sheet.specs.Apart.{describedLength, descriptions, descriptionsLegal, goodSheet}
+use Rattle.apart.specs.Apart.{describedLength, descriptions, descriptionsLegal, goodSheet}
 use Rattle.sheet.specs.Output.{callAt, areaAfter, blank, firstArea}
-use Rattle.sheet.proofs.Apart.{GoodParts}
+use Rattle.apart.proofs.Apart.{GoodParts}
 
 -- an area as a step leaves it
 pub record Kept (a : List ℕ) : Type 0 where

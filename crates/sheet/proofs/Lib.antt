@@ -1,7 +1,5 @@
 pub mod Reading
-pub mod Tests
 pub mod Steps
-pub mod Apart
 pub mod State
 pub mod First
 pub mod Short

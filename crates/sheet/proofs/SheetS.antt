@@ -7,7 +7,7 @@ use Rattle.rules.specs.Area.{describedCell, describedCells}
 use Rattle.rules.proofs.Open.{computed}
 use Rattle.line.specs.Number.{digit, digits}
 use Rattle.line.specs.Line.{replyLine, cellLine, clockLine}
-use Rattle.sheet.specs.Apart.{wholeSheet, describedRight, stepsRight, descriptionsLegal, goodSheet}
+use Rattle.apart.specs.Apart.{wholeSheet, describedRight, stepsRight, descriptionsLegal, goodSheet}
 use Rattle.sheet.specs.Output.{callOf}
 use Rattle.sheet.specs.States.{stateAfter, stateLine, endLines}
 use Rattle.sheet.specs.SheetS.{sheetS, SheetS}

@@ -13,7 +13,7 @@ use Rattle.call.specs.Answer.{replyCode, replyKind, replyWord, replyNumber}
 use Rattle.call.proofs.Answer.{code-bound, kind-bound}
 use Rattle.line.specs.declared.Style.{Style}
 use Rattle.line.specs.declared.Style.the-variants.{Decimal, Hex}
-use Rattle.line.specs.Number.{baseOf, leastOf, written}
+use Rattle.line.specs.Number.{baseOf, leastOf, numeral}
 use Rattle.line.specs.Line.{replyLine, cellLine, clockLine}
 use Rattle.line.proofs.Number.{base-positive, digits-most, digits-few}
 use Rattle.rules.specs.Model.{controller, cellOffset}
@@ -22,9 +22,9 @@ use Rattle.rules.specs.Area.{stepOnBytes}
 use Rattle.crocktendril.specs.Contract.{Stepped}
 use Rattle.crocktendril.proofs.Demands.{demand1}
 use Rattle.sheet.specs.Output.{callAt, stepCount, areaAfter, endArea, stepLine, lineInArea, printed, firstArea, badSheet, output}
-use Rattle.sheet.specs.Apart.{steps, goodSheet}
+use Rattle.apart.specs.Apart.{steps, goodSheet}
 use Rattle.sheet.specs.Whole.{LongIsBad}
-use Rattle.sheet.proofs.Apart.{good-parts}
+use Rattle.apart.proofs.Apart.{good-parts}
 
 -- n lines of at most `size` bytes
 cat-short : (size n : ℕ) (f : ℕ → List ℕ) → ((i : ℕ) → i < n → length (f i) ≤ size) → length (cat n f) ≤ size * n
@@ -34,10 +34,10 @@ cat-short size (suc n) f h =
     rw (length-append, mul-suc) (omega (arith, cat-short size n f (λ i b. h i (omega arith)), h n (omega arith)))
 
 -- a number below the base to the power k has at most k digits
-few : (style : Style) (k n : ℕ) → n < baseOf style ^ k → leastOf style ≤ k → length (written style n) ≤ k
+few : (style : Style) (k n : ℕ) → n < baseOf style ^ k → leastOf style ≤ k → length (numeral style n) ≤ k
 few style k n h least = digits-few (baseOf style) (base-positive style) k (leastOf style) 20 n h least
 
-most : (style : Style) (n : ℕ) → length (written style n) ≤ 20
+most : (style : Style) (n : ℕ) → length (numeral style n) ≤ 20
 most style n = digits-most (baseOf style) (leastOf style) 20 n
 
 reply-short : (place code kind word : ℕ) → place < 10 ^ 4 → code < 10 ^ 2 → kind < 10 ^ 1 → word < 16 ^ 8 → length (replyLine place code kind word) ≤ 19

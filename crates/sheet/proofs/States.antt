@@ -18,10 +18,10 @@ use Rattle.rules.proofs.RoundTrip.{state-back}
 use Rattle.history.proofs.Keeps.{keeps}
 use Rattle.history.proofs.Keeps.OnBytes.{stepped-packed}
 use Rattle.line.specs.Line.{clockLine}
-use Rattle.sheet.specs.Apart.{steps}
+use Rattle.apart.specs.Apart.{steps}
 use Rattle.sheet.specs.Output.{callAt, stepCount, areaAfter, lineOf, stepLine, lineOfCell, lineInArea, printed, output}
 use Rattle.sheet.specs.States.{stateAfter, stateLine, endLines, stateLines, OnStates}
-use Rattle.sheet.proofs.Apart.{good-parts}
+use Rattle.apart.proofs.Apart.{good-parts}
 use Rattle.sheet.proofs.First.{first-packed, first-right}
 
 -- one step

@@ -3,13 +3,8 @@ use mathlib.Core.List.{List}
 use mathlib.Core.Path.{_≡_}
 use Prim.Native.Nat.{ℕ}
 use Rattle.wire.proofs.Unique.{unique}
-use Rattle.sheet.specs.declared.Sheet.{Sheet}
 use Rattle.sheet.specs.declared.Ran.{Ran}
-use Rattle.sheet.specs.Apart.{takenApart}
 use Rattle.sheet.specs.Whole.{SheetRun}
-
-pub take-apart-unique : (s : List ℕ) (r₁ r₂ : Sheet) → r₁ ≡ takenApart s → r₂ ≡ takenApart s → r₁ ≡ r₂
-take-apart-unique s r₁ r₂ = unique
 
 pub run-sheet-unique : (s a out : List ℕ) (r₁ r₂ : Ran) (a₁ a₂ t₁ t₂ : List ℕ) → SheetRun s a out r₁ a₁ t₁ → SheetRun s a out r₂ a₂ t₂
     → (r₁ ≡ r₂) × (a₁ ≡ a₂) × (t₁ ≡ t₂)

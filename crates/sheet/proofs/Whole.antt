@@ -20,12 +20,12 @@ use Rattle.rules.specs.Layout.{countIn, clockIn}
 use Rattle.rules.specs.Area.{layOut}
 use Rattle.area.proofs.Good.{good-of}
 use Rattle.sheet.specs.declared.Ran.the-variants.{Written, Short}
-use Rattle.sheet.specs.Apart.{describedLength, stepsLength, firstStep, descriptions, steps, goodSheet}
+use Rattle.apart.specs.Apart.{describedLength, stepsLength, firstStep, descriptions, steps, goodSheet}
 use Rattle.sheet.specs.Output.{stepCount, endArea, stepLine, lineInArea, printed, firstArea, badSheet, output}
 use Rattle.sheet.specs.Parts.{stepsAdded, stateAdded, PartsRun}
 use Rattle.sheet.specs.Whole.{mostArea, mostOutput, roomy, areaLeft, SheetRun}
-use Rattle.sheet.proofs.Tests.{fails, goes-on}
-use Rattle.sheet.proofs.Apart.{GoodParts}
+use Rattle.apart.proofs.Tests.{fails, goes-on}
+use Rattle.apart.proofs.Apart.{GoodParts}
 use Rattle.sheet.proofs.First.{Kept, kept-after, same-first, first-kept}
 use Rattle.sheet.proofs.Short.{printed-short}
 

@@ -1,4 +1,3 @@
-pub mod Apart
 pub mod Output
 pub mod Parts
 pub mod Whole

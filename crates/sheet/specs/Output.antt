@@ -14,7 +14,7 @@ use Rattle.rules.specs.Area.{stepOnBytes, layOut}
 use Rattle.rules.specs.Run.{call}
 use Rattle.rules.specs.declared.Cell.{Cell}
 use Rattle.line.specs.Line.{replyLine, cellLine, clockLine}
-use Rattle.sheet.specs.Apart.{stepSize, descriptions, steps, cellsOf, goodSheet}
+use Rattle.apart.specs.Apart.{stepSize, descriptions, steps, cellsOf, goodSheet}
 
 -- a step's 8 bytes: step, slot, cell, kind, word
 unfoldable pub callOf : List ℕ → Call

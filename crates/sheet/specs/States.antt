@@ -10,7 +10,7 @@ use Rattle.rules.specs.Outcome.{replyOf, after}
 use Rattle.rules.specs.Step.{step}
 use Rattle.rules.specs.Area.{describedCells, fresh}
 use Rattle.line.specs.Line.{clockLine}
-use Rattle.sheet.specs.Apart.{descriptions, steps, goodSheet}
+use Rattle.apart.specs.Apart.{descriptions, steps, goodSheet}
 use Rattle.sheet.specs.Output.{callAt, stepCount, lineOf, lineOfCell, output}
 
 -- the state after the first k steps

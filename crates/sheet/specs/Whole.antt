@@ -11,7 +11,7 @@ use Rattle.rules.specs.Model.{controller, areaLength}
 use Rattle.rules.specs.Area.{descriptionSize}
 use Rattle.sheet.specs.declared.Ran.{Ran}
 use Rattle.sheet.specs.declared.Ran.the-variants.{Written, Short}
-use Rattle.sheet.specs.Apart.{stepSize, mostSteps, steps, goodSheet}
+use Rattle.apart.specs.Apart.{stepSize, mostSteps, steps, goodSheet}
 use Rattle.sheet.specs.Output.{endArea, firstArea, badSheet, output}
 
 -- the longest good sheet: a program that reads more bytes than that, and no more, knows a longer one

@@ -2,19 +2,18 @@
 use mathlib.Core.Path.{_≡_, sym, _∙_}
 use mathlib.Core.List.{List}
 use Prim.Native.Nat.{ℕ}
-use lib.ListN.{drop}
-use Rattle.wire.specs.Field.{be, toBe}
+use Rattle.wire.specs.Field.{fieldAt, fieldPut}
 use Rattle.wire.specs.Part.{splice}
 
 -- two answers that are both one value are the same
 pub unique : {A : Type 0} {x r₁ r₂ : A} → r₁ ≡ x → r₂ ≡ x → r₁ ≡ r₂
 unique p q = p ∙ sym q
 
-pub get-unique : (s : List ℕ) (at width r₁ r₂ : ℕ) → r₁ ≡ be width (drop at s) → r₂ ≡ be width (drop at s) → r₁ ≡ r₂
+pub get-unique : (s : List ℕ) (at width r₁ r₂ : ℕ) → r₁ ≡ fieldAt s at width → r₂ ≡ fieldAt s at width → r₁ ≡ r₂
 get-unique s at width r₁ r₂ = unique
 
 pub put-unique : (s : List ℕ) (at width number : ℕ) (s₁ s₂ : List ℕ)
-    → s₁ ≡ splice s at (toBe width number) → s₂ ≡ splice s at (toBe width number) → s₁ ≡ s₂
+    → s₁ ≡ fieldPut s at width number → s₂ ≡ fieldPut s at width number → s₁ ≡ s₂
 put-unique s at width number s₁ s₂ = unique
 
 pub put-part-unique : (s : List ℕ) (at : ℕ) (part s₁ s₂ : List ℕ) → s₁ ≡ splice s at part → s₂ ≡ splice s at part → s₁ ≡ s₂

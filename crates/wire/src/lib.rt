@@ -1,14 +1,14 @@
 // Big-endian fields of any width in a byte slice, and a part put in place of as many bytes.
 ghost use mathlib.Core.Path.{_≡_};
 ghost use Prim.Native.Nat.{_+_, _≤_};
-ghost use lib.ListN.{length, drop};
-ghost use Rattle.wire.specs.Field.{be, toBe};
+ghost use lib.ListN.{length};
+ghost use Rattle.wire.specs.Field.{fieldAt, fieldPut};
 ghost use Rattle.wire.specs.Part.{splice};
 
 // The number in the `width` bytes from `at` on.
 pub fn get(s: &[u8], at: usize, width: usize) -> u64
     requires { ⌜ (width ≤ 8) × (at + width ≤ length (now s)) ⌝ }
-    ensures { λ r. ⌜ r ≡ be width (drop at (now (s .entry))) ⌝ }
+    ensures { λ r. ⌜ r ≡ fieldAt (now (s .entry)) at width ⌝ }
 {
     let mut n: u64 = 0;
     let mut i = 0;
@@ -22,7 +22,7 @@ pub fn get(s: &[u8], at: usize, width: usize) -> u64
 // Puts the lowest `width` bytes of `number` at `at`.
 pub fn put(s: &mut [u8], at: usize, width: usize, number: u64)
     requires { ⌜ at + width ≤ length (now s) ⌝ }
-    ensures { λ r. ⌜ now (s .exit) ≡ splice (now (s .entry)) at (toBe width number) ⌝ }
+    ensures { λ r. ⌜ now (s .exit) ≡ fieldPut (now (s .entry)) at width number ⌝ }
 {
     let mut n = number;
     let mut k = width;

@@ -13,10 +13,15 @@ enum-told : tie.Need-enum-told
 enum-told c = search needs
 
 returns : tie.Need-returns
-returns c = rw (← c .before .before .from-word .ensures, c .enum-told .given .1)
+returns c =
+    let from-word = let c : tie.After-from-word = search in c .from-word .ensures in
+    rw (← from-word, c .enum-told .given .1)
 
 returns-2 : tie.Need-returns-2
-returns-2 c = rw (← c .before .before .before .from-word .ensures, c .before .v .given .1)
+returns-2 c =
+    let from-word = let c : tie.After-from-word = search in c .from-word .ensures in
+    let v = let c : tie.After-v = search in c .v .given in
+    rw (← from-word, v .1)
 
 pub write-of-spec : {M : Type 1} → statement M
 write-of-spec = tie.close (tie.spec from-word-requires enum-known-v enum-told returns returns-2)

@@ -16,14 +16,20 @@ same-length : tie.Need-same-length
 same-length c = search needs
 
 returns : tie.Need-returns
-returns c = refuses _ _ _ (sym (c .before .before .well-formed .ensures) ∙ not-true _ (c .before .if1 .taken)) (c .number .ensures)
+returns c =
+    let well-formed = let c : tie.After-well-formed = search in c .well-formed .ensures in
+    let if1 = let c : tie.Then1 = search in c .if1 .taken in
+    refuses _ _ _ (sym well-formed ∙ not-true _ if1) (c .number .ensures)
 
 decode-requires : tie.Need-decode-requires
 decode-requires c κs = search needs
 
 step-requires : tie.Need-step-requires
 step-requires c κs =
-    good-of _ (λ i. (c .before .before .before .before .before .slice-known .given i) .fits) (sym (c .before .before .before .well-formed .ensures) ∙ not-false _ (c .before .before .if1 .left))
+    let slice-known = let c : tie.After-slice-known = search in c .slice-known .given in
+    let well-formed = let c : tie.After-well-formed = search in c .well-formed .ensures in
+    let if1 = let c : tie.Else1 = search in c .if1 .left in
+    good-of _ (λ i. (slice-known i) .fits) (sym well-formed ∙ not-false _ if1)
 
 number-requires-2 : tie.Need-number-requires-2
 number-requires-2 c κs = search needs
@@ -33,8 +39,12 @@ same-length-2 c = search needs
 
 returns-2 : tie.Need-returns-2
 returns-2 c =
-    let right = sym (c .before .before .before .before .before .before .before .well-formed .ensures) ∙ not-false _ (c .before .before .before .before .before .before .if1 .left) in
-    steps _ _ _ _ _ right (rw (c .before .before .before .before .before .decode .ensures) at (c .before .before .before .step .ensures)) (c .number2 .ensures)
+    let well-formed = let c : tie.After-well-formed = search in c .well-formed .ensures in
+    let if1 = let c : tie.Else1 = search in c .if1 .left in
+    let decode = let c : tie.After-decode = search in c .decode .ensures in
+    let step = let c : tie.After-step = search in c .step .ensures in
+    let right = sym well-formed ∙ not-false _ if1 in
+    steps _ _ _ _ _ right (rw decode at step) (c .number2 .ensures)
 
 pub crocktendril-step-spec : {M : Type 1} → statement M
 crocktendril-step-spec =

@@ -29,8 +29,8 @@ part-put-bytes-start c = search needs
 
 part-put-bytes-end : tie.Need-part-put-bytes-end
 part-put-bytes-end c =
-    let args = c .before .before .before .before .before .before .args in
-    let spell = c .before .before .before .spell in
+    let args = let c : tie.Start = search in c .args in
+    let spell = let c : tie.After-spell = search in c .spell in
     let e = spell .last .0 in
     let after = args .after in
     let long : length (set (e ++ (0 ∷ [])) 20 after) ≡ 21 = simp (length-set, length-append) (omega arith) in
@@ -47,9 +47,9 @@ same-length c = search needs
 
 returns : tie.Need-returns
 returns c =
-    let args = c .before .before .before .before .before .before .before .before .before .before .before .args in
-    let spell = c .before .before .before .before .before .before .before .before .spell in
-    let put-bytes = c .before .before .before .put-bytes in
+    let args = let c : tie.Start = search in c .args in
+    let spell = let c : tie.After-spell = search in c .spell in
+    let put-bytes = let c : tie.After-put-bytes = search in c .put-bytes in
     leaves (put-bytes .ensures) (spelt-field _ (spell .last .0) (args .style) (args .number) (spell .result) (args .after) refl (spell .ensures)) (c .end-or .ensures)
 
 pub add-number-spec : {M : Type 1} → statement M

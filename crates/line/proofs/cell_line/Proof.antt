@@ -59,17 +59,16 @@ same-length c = search needs
 
 returns : tie.Need-returns
 returns c =
-    let args = c .before .before .before .before .before .before .before .before .before .before .before .before .before .before .before .before .before .before .before .before .before .before .before .before .before .before .args in
-    let put-bytes = c .before .before .before .before .before .before .before .before .before .before .before .before .before .before .before .before .before .before .before .before .before .before .put-bytes in
-    let end-or = c .before .before .before .before .before .before .before .before .before .before .before .before .before .before .before .before .before .before .before .before .end-or in
-    let add-number = c .before .before .before .before .before .before .before .before .before .before .before .before .before .before .before .before .before .before .add-number in
-    let add-number2 = c .before .before .before .before .before .before .before .before .before .before .before .before .before .before .before .add-number2 in
-    let add-number3 = c .before .before .before .before .before .before .before .before .before .before .before .before .add-number3 in
-    let add-number4 = c .before .before .before .before .before .before .before .before .before .add-number4 in
-    let add-number5 = c .before .before .before .before .before .before .add-number5 in
-    let word = leaves (put-bytes .ensures) refl (end-or .ensures) in
-    puts-same (c .before .before .put-front .ensures)
-    (cell-gathered _ refl (args .number) (args .kind) (args .word) (args .stamp) (args .holder) word (add-number .ensures) (add-number2 .ensures) (add-number3 .ensures) (add-number4 .ensures) (add-number5 .ensures))
+    let c : tie.After-put-front = search in let put = c .put-front .ensures in
+    let c : tie.After-add-number5 = search in let holder = c .add-number5 .ensures in
+    let c : tie.After-add-number4 = search in let stamp = c .add-number4 .ensures in
+    let c : tie.After-add-number3 = search in let word = c .add-number3 .ensures in
+    let c : tie.After-add-number2 = search in let kind = c .add-number2 .ensures in
+    let c : tie.After-add-number = search in let number = c .add-number .ensures in
+    let c : tie.After-end-or = search in let end = c .end-or .ensures in
+    let c : tie.After-put-bytes = search in let name = leaves (c .put-bytes .ensures) refl end in
+    let c : tie.Start = search in let args = c .args in
+    puts-same put (cell-gathered _ refl (args .number) (args .kind) (args .word) (args .stamp) (args .holder) name number kind word stamp holder)
 
 pub cell-line-spec : {M : Type 1} → statement M
 cell-line-spec =

@@ -35,12 +35,12 @@ same-length c = search needs
 
 returns : tie.Need-returns
 returns c =
-    let args = c .before .before .before .before .before .before .before .before .before .before .before .before .before .before .args in
-    let put-bytes = c .before .before .before .before .before .before .before .before .before .before .put-bytes in
-    let end-or = c .before .before .before .before .before .before .before .before .end-or in
-    let add-number = c .before .before .before .before .before .before .add-number in
-    let word = leaves (put-bytes .ensures) refl (end-or .ensures) in
-    puts-same (c .before .before .put-front .ensures) (clock-gathered _ refl (args .clock) word (add-number .ensures))
+    let c : tie.After-put-front = search in let put = c .put-front .ensures in
+    let c : tie.After-add-number = search in let clock = c .add-number .ensures in
+    let c : tie.After-end-or = search in let end = c .end-or .ensures in
+    let c : tie.After-put-bytes = search in let name = leaves (c .put-bytes .ensures) refl end in
+    let c : tie.Start = search in
+    puts-same put (clock-gathered _ refl (c .args .clock) name clock)
 
 pub clock-line-spec : {M : Type 1} → statement M
 clock-line-spec =

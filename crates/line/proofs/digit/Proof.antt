@@ -16,7 +16,9 @@ returns c = refl
 
 returns-2 : tie.Need-returns-2
 unfolding digit
-returns-2 c = sym (List·getD-eq-default digitBytes 0 {n = c .before .before .args .d} (omega arith))
+returns-2 c =
+    let args = let c : tie.Start = search in c .args in
+    sym (List·getD-eq-default digitBytes 0 {n = args .d} (omega arith))
 
 pub digit-spec : {M : Type 1} → statement M
 digit-spec = tie.close (tie.spec element-copy-out-result returns returns-2)

@@ -24,7 +24,9 @@ same-length : tie.Need-same-length
 same-length c = search needs
 
 returns-3 : tie.Need-returns-3
-returns-3 c = room _ _ _ _ (omega arith) (c .before .before .put-part .ensures)
+returns-3 c =
+    let put-part = let c : tie.After-put-part = search in c .put-part .ensures in
+    room _ _ _ _ (omega arith) put-part
 
 pub put-bytes-spec : {M : Type 1} → statement M
 put-bytes-spec =

@@ -15,8 +15,9 @@ same-length c = search needs
 
 returns : tie.Need-returns
 returns c =
-    let args = c .before .before .before .before .before .before .before .args in
-    puts-same (c .before .before .put-bytes .ensures) (sym (take-all (args .count) (args .text .now) (omega arith)))
+    let put-bytes = let c : tie.After-put-bytes = search in c .put-bytes .ensures in
+    let args = let c : tie.Start = search in c .args in
+    puts-same put-bytes (sym (take-all (args .count) (args .text .now) (omega arith)))
 
 slice-aggregate-put-bytes : tie.Need-slice-aggregate-put-bytes
 slice-aggregate-put-bytes c = sym (length-take-le _ _ (omega arith))

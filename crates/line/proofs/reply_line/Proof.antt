@@ -41,12 +41,12 @@ same-length c = search needs
 
 returns : tie.Need-returns
 returns c =
-    let add-number = c .before .before .before .before .before .before .before .before .before .before .before .before .before .before .before .add-number in
-    let add-number2 = c .before .before .before .before .before .before .before .before .before .before .before .before .add-number2 in
-    let add-number3 = c .before .before .before .before .before .before .before .before .before .add-number3 in
-    let add-number4 = c .before .before .before .before .before .before .add-number4 in
-    puts-same (c .before .before .put-front .ensures)
-    (reply-gathered _ refl _ _ _ _ (add-number .ensures) (add-number2 .ensures) (add-number3 .ensures) (add-number4 .ensures))
+    let c : tie.After-put-front = search in let put = c .put-front .ensures in
+    let c : tie.After-add-number4 = search in let word = c .add-number4 .ensures in
+    let c : tie.After-add-number3 = search in let kind = c .add-number3 .ensures in
+    let c : tie.After-add-number2 = search in let code = c .add-number2 .ensures in
+    let c : tie.After-add-number = search in let place = c .add-number .ensures in
+    puts-same put (reply-gathered _ refl _ _ _ _ place code kind word)
 
 pub reply-line-spec : {M : Type 1} → statement M
 reply-line-spec =

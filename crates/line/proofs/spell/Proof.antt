@@ -26,7 +26,7 @@ least-requires c κs = tt
 
 loop-holds : tie.Need-loop-holds Inv-loop μ-loop
 loop-holds c =
-    let args = c .before .before .before .args in
+    let args = let c : tie.Start Inv-loop μ-loop = search in c .args in
     let text = args .text .now in
     (omega arith, refl, refl, sym (rw drop-length (append-nil _)))
 
@@ -38,9 +38,9 @@ same-length c = omega arith
 
 returns : tie.Need-returns Inv-loop μ-loop
 returns c =
-    let base = c .before .before .before .before .before .base in
-    let least = c .before .before .before .before .least in
-    let loop = c .before .before .before .loop in
+    let base = let c : tie.After-base Inv-loop μ-loop = search in c .base in
+    let least = let c : tie.After-least Inv-loop μ-loop = search in c .least in
+    let loop = let c : tie.At-loop Inv-loop μ-loop = search in c .loop in
     let inv = loop .inv in
     let over = digits-over _ _ (loop .i) _ (sym (c .before .done .ensures) ∙ c .if1 .taken) in
     ending _ _ _ _ _ _ _ _ (inv .0) (inv .1) (inv .2) over (rw (base .ensures, least .ensures) at (inv .3))
@@ -50,8 +50,8 @@ sub-i c = omega arith
 
 rem-digit : tie.Need-rem-digit Inv-loop μ-loop
 rem-digit c =
-    let args = c .before .before .before .before .before .before .before .args in
-    let base = c .before .before .before .before .before .base in
+    let args = let c : tie.Start Inv-loop μ-loop = search in c .args in
+    let base = let c : tie.After-base Inv-loop μ-loop = search in c .base in
     omega (arith, base .ensures, base-positive (args .style))
 
 digit-requires : tie.Need-digit-requires Inv-loop μ-loop
@@ -62,8 +62,8 @@ slice-write-text c = omega arith
 
 div-rest : tie.Need-div-rest Inv-loop μ-loop
 div-rest c =
-    let args = c .before .before .before .before .before .before .before .before .args in
-    let base = c .before .before .before .before .before .before .base in
+    let args = let c : tie.Start Inv-loop μ-loop = search in c .args in
+    let base = let c : tie.After-base Inv-loop μ-loop = search in c .base in
     omega (arith, base .ensures, base-positive (args .style))
 
 less-requires : tie.Need-less-requires Inv-loop μ-loop
@@ -74,17 +74,20 @@ loop-less c = omega arith
 
 loop-again : tie.Need-loop-again Inv-loop μ-loop
 loop-again c =
-    let args = c .before .before .before .before .before .before .before .before .before .args in
-    let loop = c .before .before .before .before .before .loop in
-    let done = c .before .before .before .done in
+    let if1 = let c : tie.Else1 Inv-loop μ-loop = search in c .if1 .left in
+    let digit-result = let c : tie.After-digit Inv-loop μ-loop = search in c .digit .result in
+    let digit-ensures = let c : tie.After-digit Inv-loop μ-loop = search in c .digit .ensures in
+    let args = let c : tie.Start Inv-loop μ-loop = search in c .args in
+    let loop = let c : tie.At-loop Inv-loop μ-loop = search in c .loop in
+    let done = let c : tie.After-done Inv-loop μ-loop = search in c .done in
     let inv = loop .inv in
-    let more = sym (done .ensures) ∙ c .before .before .if1 .left in
+    let more = sym (done .ensures) ∙ if1 in
     let text = args .text .now in
     let front = sym (take-take (loop .i - 1) (loop .i) (loop .text) (omega arith)) ∙ ap (take (loop .i - 1)) (inv .2) ∙ take-take (loop .i - 1) (loop .i) text (omega arith) in (
       omega arith,
-      length-set (loop .text) (loop .i - 1) (c .before .digit .result) ∙ inv .1,
+      length-set (loop .text) (loop .i - 1) digit-result ∙ inv .1,
       take-set-le (loop .i - 1) (loop .text) (loop .i - 1) _ (omega arith) ∙ front,
-      rw (c .before .digit .ensures, c .less .ensures) (turn _ (loop .text) _ _ (loop .i) (loop .rest) (omega arith) (omega arith) more (inv .3)),
+      rw (digit-ensures, c .less .ensures) (turn _ (loop .text) _ _ (loop .i) (loop .rest) (omega arith) (omega arith) more (inv .3)),
     )
 
 same-length-2 : tie.Need-same-length-2 Inv-loop μ-loop
@@ -92,11 +95,12 @@ same-length-2 c = omega arith
 
 returns-2 : tie.Need-returns-2 Inv-loop μ-loop
 returns-2 c =
-    let base = c .before .before .before .base in
-    let loop = c .before .loop in
+    let least = let c : tie.After-least Inv-loop μ-loop = search in c .least .ensures in
+    let base = let c : tie.After-base Inv-loop μ-loop = search in c .base .ensures in
+    let loop = let c : tie.At-loop Inv-loop μ-loop = search in c .loop in
     let inv = loop .inv in
     let none = digits-none _ _ (loop .i) _ (omega arith) in
-    ending _ _ _ _ _ _ _ _ (inv .0) (inv .1) (inv .2) none (rw (base .ensures, c .before .before .least .ensures) at (inv .3))
+    ending _ _ _ _ _ _ _ _ (inv .0) (inv .1) (inv .2) none (rw (base, least) at (inv .3))
 
 pub spell-spec : {M : Type 1} → statement M
 spell-spec =

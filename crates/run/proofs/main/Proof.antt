@@ -49,14 +49,15 @@ returns c = search needs
 -- src/main.rt:18:34
 array-share-prefix-out : tie.Need-array-share-prefix-out
 array-share-prefix-out c =
-    let run-sheet = c .before .before .before .before .before .run-sheet in
+    let run-sheet = let c : tie.After-run-sheet = search in c .run-sheet in
     written-within (run-sheet .ensures) (c .before .ran .given .1)
 
 -- src/main.rt:18:34
 slice-aggregate-write-all : tie.Need-slice-aggregate-write-all
 slice-aggregate-write-all c =
-    let run-sheet = c .before .before .before .before .before .before .run-sheet in
-    sym (length-take-le _ _ (written-within (run-sheet .ensures) (c .before .before .ran .given .1)))
+    let ran = let c : tie.After-ran = search in c .ran .given in
+    let run-sheet = let c : tie.After-run-sheet = search in c .run-sheet in
+    sym (length-take-le _ _ (written-within (run-sheet .ensures) (ran .1)))
 
 -- src/main.rt:18:5
 write-all-requires : tie.Need-write-all-requires

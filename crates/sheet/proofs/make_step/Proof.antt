@@ -28,12 +28,13 @@ same-length c = search needs
 returns : tie.Need-returns
 unfolding callOf
 returns c =
-    let word = c .before .before .before .before .before .before .before .before .word in
-    let byte = c .before .before .before .before .before .before .byte in
-    let byte2 = c .before .before .before .before .before .byte2 in
-    let byte3 = c .before .before .before .before .byte3 in
-    let byte4 = c .before .before .before .byte4 in
-    rw (byte .ensures, byte2 .ensures, byte3 .ensures, byte4 .ensures, word .ensures) at (c .before .before .crocktendril-step .ensures)
+    let crocktendril-step = let c : tie.After-crocktendril-step = search in c .crocktendril-step .ensures in
+    let word = let c : tie.After-word = search in c .word in
+    let byte = let c : tie.After-byte = search in c .byte in
+    let byte2 = let c : tie.After-byte2 = search in c .byte2 in
+    let byte3 = let c : tie.After-byte3 = search in c .byte3 in
+    let byte4 = let c : tie.After-byte4 = search in c .byte4 in
+    rw (byte .ensures, byte2 .ensures, byte3 .ensures, byte4 .ensures, word .ensures) at crocktendril-step
 
 pub make-step-spec : {M : Type 1} → statement M
 make-step-spec =

@@ -57,10 +57,10 @@ loop-less c = omega arith
 
 loop-again : tie.Need-loop-again Inv-loop μ-loop
 loop-again c =
-    let args = c .before .before .before .before .before .before .before .before .before .before .before .before .before .before .before .args in
-    let loop = c .before .before .before .before .before .before .before .before .before .before .before .loop in
-    let make-step = c .before .before .before .before .before .before .before .make-step in
-    let reply-line = c .before .before .before .reply-line in
+    let args = let c : tie.After-slice-known2 Inv-loop μ-loop = search in let c : tie.Start Inv-loop μ-loop = search in c .args in
+    let loop = let c : tie.At-loop Inv-loop μ-loop = search in c .loop in
+    let make-step = let c : tie.After-make-step Inv-loop μ-loop = search in c .make-step in
+    let reply-line = let c : tie.After-reply-line Inv-loop μ-loop = search in c .reply-line in
     let made = step-at (args .steps .now) (loop .k) (make-step .ensures) in
     let line = next-line (args .area .now) (args .steps .now) (loop .k) _ (loop .area) _ (loop .inv .3) made in (
       omega arith,
@@ -78,7 +78,7 @@ same-length-2 c = omega arith
 
 returns : tie.Need-returns Inv-loop μ-loop
 returns c =
-    let args = c .before .before .before .before .before .args in
+    let args = let c : tie.Start Inv-loop μ-loop = search in c .args in
     let loop = c .before .loop in
     let all : loop .k ≡ length (args .steps .now) / 8 = omega arith in
     record { area = rw all at (loop .inv .3); lines = rw all at (loop .inv .4) }

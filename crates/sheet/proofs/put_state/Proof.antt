@@ -20,7 +20,7 @@ abbrev μ-loop : tie.MeasureT-loop
 
 returns : tie.Need-returns Inv-loop μ-loop
 returns c =
-    let args = c .before .before .before .args in
+    let args = let c : tie.Start Inv-loop μ-loop = search in c .args in
     too-short (args .area .now) (args .at) (args .out .now) (omega arith)
 
 shared-slice-read-n : tie.Need-shared-slice-read-n Inv-loop μ-loop
@@ -37,7 +37,7 @@ add-if2 c = omega (arith, c .shared-slice-known2 .given 5)
 
 returns-2 : tie.Need-returns-2 Inv-loop μ-loop
 returns-2 c =
-    let args = c .before .before .before .before .before .args in
+    let args = let c : tie.Start Inv-loop μ-loop = search in c .args in
     too-short (args .area .now) (args .at) (args .out .now) (omega arith)
 
 loop-holds : tie.Need-loop-holds Inv-loop μ-loop
@@ -46,17 +46,17 @@ loop-holds c = (omega arith, refl, record { end = refl; bytes = refl })
 
 cast-place : tie.Need-cast-place Inv-loop μ-loop
 cast-place c =
-    let shared-slice-known2 = c .before .before .before .shared-slice-known2 in
+    let shared-slice-known2 = let c : tie.After-shared-slice-known2 Inv-loop μ-loop = search in c .shared-slice-known2 in
     omega (arith, shared-slice-known2 .given 5)
 
 mul-place : tie.Need-mul-place Inv-loop μ-loop
 mul-place c =
-    let shared-slice-known2 = c .before .before .before .shared-slice-known2 in
+    let shared-slice-known2 = let c : tie.After-shared-slice-known2 Inv-loop μ-loop = search in c .shared-slice-known2 in
     omega (arith, shared-slice-known2 .given 5)
 
 add-place : tie.Need-add-place Inv-loop μ-loop
 add-place c =
-    let shared-slice-known2 = c .before .before .before .shared-slice-known2 in
+    let shared-slice-known2 = let c : tie.After-shared-slice-known2 Inv-loop μ-loop = search in c .shared-slice-known2 in
     omega (arith, shared-slice-known2 .given 5)
 
 add-get : tie.Need-add-get Inv-loop μ-loop
@@ -67,10 +67,11 @@ get-requires c κs = omega arith
 
 cast-word : tie.Need-cast-word Inv-loop μ-loop
 cast-word c =
-    let args = c .before .before .before .before .before .before .before .before .args in
-    let shared-slice-known = c .before .before .before .before .before .before .before .shared-slice-known in
+    let loop = let c : tie.At-loop Inv-loop μ-loop = search in c .loop .c in
+    let args = let c : tie.Start Inv-loop μ-loop = search in c .args in
+    let shared-slice-known = let c : tie.After-shared-slice-known Inv-loop μ-loop = search in c .shared-slice-known in
     let l = args .area .now in
-    let at = 14 + 14 * c .before .before .loop .c + 2 in
+    let at = 14 + 14 * loop + 2 in
     omega (arith, c .get .ensures, be-bound 4 (drop at l) (bytes-drop at l (λ i. (shared-slice-known .given i) .fits)))
 
 add-get-2 : tie.Need-add-get-2 Inv-loop μ-loop
@@ -96,7 +97,7 @@ end-or-requires c κs = tt
 
 add-c : tie.Need-add-c Inv-loop μ-loop
 add-c c =
-    let shared-slice-known2 = c .before .before .before .before .before .before .before .before .before .before .before .before .shared-slice-known2 in
+    let shared-slice-known2 = let c : tie.After-shared-slice-known2 Inv-loop μ-loop = search in c .shared-slice-known2 in
     omega (arith, shared-slice-known2 .given 5)
 
 loop-less : tie.Need-loop-less Inv-loop μ-loop
@@ -104,11 +105,11 @@ loop-less c = omega arith
 
 loop-again : tie.Need-loop-again Inv-loop μ-loop
 loop-again c =
-    let args = c .before .before .before .before .before .before .before .before .before .before .before .before .before .before .before .before .args in
-    let loop = c .before .before .before .before .before .before .before .before .before .before .loop in
-    let get = c .before .before .before .before .before .before .before .before .get in
-    let get2 = c .before .before .before .before .before .before .before .get2 in
-    let cell-line = c .before .before .before .cell-line in (
+    let args = let c : tie.After-shared-slice-known2 Inv-loop μ-loop = search in let c : tie.Start Inv-loop μ-loop = search in c .args in
+    let loop = let c : tie.At-loop Inv-loop μ-loop = search in c .loop in
+    let get = let c : tie.After-get Inv-loop μ-loop = search in c .get in
+    let get2 = let c : tie.After-get2 Inv-loop μ-loop = search in c .get2 in
+    let cell-line = let c : tie.After-cell-line Inv-loop μ-loop = search in c .cell-line in (
       omega arith,
       cell-line .kept .0 ∙ loop .inv .1,
       leaves-next (lineInArea (args .area .now)) (gathered (args .at) (args .out .now)) (loop .c) (loop .inv .2)
@@ -129,10 +130,10 @@ same-length c = omega arith
 
 returns-3 : tie.Need-returns-3 Inv-loop μ-loop
 returns-3 c =
-    let args = c .before .before .before .before .before .before .before .before .before .before .before .before .before .args in
-    let loop = c .before .before .before .before .before .before .before .loop in
-    let get3 = c .before .before .before .before .get3 in
-    let clock-line = c .before .before .before .clock-line in
+    let args = let c : tie.After-shared-slice-known Inv-loop μ-loop = search in let c : tie.Start Inv-loop μ-loop = search in c .args in
+    let loop = let c : tie.At-loop Inv-loop μ-loop = search in c .loop in
+    let get3 = let c : tie.After-get3 Inv-loop μ-loop = search in c .get3 in
+    let clock-line = let c : tie.After-clock-line Inv-loop μ-loop = search in c .clock-line in
     let all : loop .c ≡ getD (args .area .now) 5 0 = omega arith in
     state-left (args .area .now) (gathered (args .at) (args .out .now)) (omega arith) (rw all at (loop .inv .2)) (get3 .ensures) (clock-line .ensures) (c .end-or2 .ensures)
 

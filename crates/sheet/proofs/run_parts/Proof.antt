@@ -21,9 +21,10 @@ same-length-2 c = search needs
 
 returns : tie.Need-returns
 returns c =
-    let crocktendril-lay-out = c .before .before .before .before .before .before .before .before .before .before .before .before .before .before .crocktendril-lay-out in
-    let make-steps = c .before .before .before .before .before .before .before .before .before .make-steps in
-    parts-run (crocktendril-lay-out .ensures .bytes) (make-steps .ensures) (c .before .before .put-state .ensures)
+    let c : tie.After-put-state = search in let state = c .put-state .ensures in
+    let c : tie.After-make-steps = search in let steps = c .make-steps .ensures in
+    let c : tie.After-crocktendril-lay-out = search in let laid = c .crocktendril-lay-out .ensures in
+    parts-run (laid .bytes) steps state
 
 pub run-parts-spec : {M : Type 1} → statement M
 run-parts-spec =

@@ -2,7 +2,7 @@
 use mathlib.Core.Path.{sym, _∙_}
 use native.Mathlib.Omega.{arith}
 use lib.Seq.{length-take-le}
-use Rattle.sheet.proofs.Apart.{apart-good, apart-bad}
+use Rattle.apart.proofs.Apart.{apart-good, apart-bad}
 use Rattle.sheet.proofs.Whole.{short-area, short-out, bad-run, good-run}
 use borrow.Author.Needs.{needs}
 use Rattle.sheet.proofs.run_sheet.Statement.{statement}
@@ -37,65 +37,65 @@ same-length c = search needs
 
 returns-3 : tie.Need-returns-3
 returns-3 c =
-    let args = c .before .before .before .before .before .before .before .before .before .before .before .before .before .before .args in
-    let take-apart = c .before .before .before .before .before .before .before .before .take-apart in
-    let enum-told = c .before .before .before .before .before .before .enum-told in
-    let put-bytes = c .before .before .before .put-bytes in
+    let args = let c : tie.After-slice-known = search in let c : tie.Start = search in c .args in
+    let take-apart = let c : tie.After-take-apart = search in c .take-apart in
+    let enum-told = let c : tie.After-enum-told = search in c .enum-told in
+    let put-bytes = let c : tie.After-put-bytes = search in c .put-bytes in
     let s = args .sheet .now in
     bad-run s _ _ (omega arith) (omega arith) (apart-bad s (sym (take-apart .ensures) ∙ enum-told .given .1)) (put-bytes .ensures) (c .end-or .ensures)
 
 mul-described : tie.Need-mul-described
 mul-described c =
-    let args = c .before .before .before .before .before .before .before .before .before .args in
-    let take-apart = c .before .before .before .take-apart in
+    let args = let c : tie.Start = search in c .args in
+    let take-apart = let c : tie.After-take-apart = search in c .take-apart in
     let s = args .sheet .now in
     let good = apart-good s (sym (take-apart .ensures) ∙ c .before .apart .given .1) in
     omega arith
 
 add-described : tie.Need-add-described
 add-described c =
-    let args = c .before .before .before .before .before .before .before .before .before .args in
-    let take-apart = c .before .before .before .take-apart in
+    let args = let c : tie.Start = search in c .args in
+    let take-apart = let c : tie.After-take-apart = search in c .take-apart in
     let s = args .sheet .now in
     let good = apart-good s (sym (take-apart .ensures) ∙ c .before .apart .given .1) in
     omega arith
 
 mul-stepped : tie.Need-mul-stepped
 mul-stepped c =
-    let args = c .before .before .before .before .before .before .before .before .before .args in
-    let take-apart = c .before .before .before .take-apart in
+    let args = let c : tie.Start = search in c .args in
+    let take-apart = let c : tie.After-take-apart = search in c .take-apart in
     let s = args .sheet .now in
     let good = apart-good s (sym (take-apart .ensures) ∙ c .before .apart .given .1) in
     omega arith
 
 add-stepped : tie.Need-add-stepped
 add-stepped c =
-    let args = c .before .before .before .before .before .before .before .before .before .args in
-    let take-apart = c .before .before .before .take-apart in
+    let args = let c : tie.Start = search in c .args in
+    let take-apart = let c : tie.After-take-apart = search in c .take-apart in
     let s = args .sheet .now in
     let good = apart-good s (sym (take-apart .ensures) ∙ c .before .apart .given .1) in
     omega arith
 
 mul-length : tie.Need-mul-length
 mul-length c =
-    let args = c .before .before .before .before .before .before .before .before .before .args in
-    let take-apart = c .before .before .before .take-apart in
+    let args = let c : tie.Start = search in c .args in
+    let take-apart = let c : tie.After-take-apart = search in c .take-apart in
     let s = args .sheet .now in
     let good = apart-good s (sym (take-apart .ensures) ∙ c .before .apart .given .1) in
     omega arith
 
 add-length : tie.Need-add-length
 add-length c =
-    let args = c .before .before .before .before .before .before .before .before .before .args in
-    let take-apart = c .before .before .before .take-apart in
+    let args = let c : tie.Start = search in c .args in
+    let take-apart = let c : tie.After-take-apart = search in c .take-apart in
     let s = args .sheet .now in
     let good = apart-good s (sym (take-apart .ensures) ∙ c .before .apart .given .1) in
     omega arith
 
 add-length-2 : tie.Need-add-length-2
 add-length-2 c =
-    let args = c .before .before .before .before .before .before .before .before .before .args in
-    let take-apart = c .before .before .before .take-apart in
+    let args = let c : tie.Start = search in c .args in
+    let take-apart = let c : tie.After-take-apart = search in c .take-apart in
     let s = args .sheet .now in
     let good = apart-good s (sym (take-apart .ensures) ∙ c .before .apart .given .1) in
     omega arith
@@ -108,8 +108,8 @@ part-run-parts-start c = search needs
 
 part-run-parts-end : tie.Need-part-run-parts-end
 part-run-parts-end c =
-    let args = c .before .before .before .before .before .before .before .before .before .args in
-    let take-apart = c .before .before .before .take-apart in
+    let args = let c : tie.Start = search in c .args in
+    let take-apart = let c : tie.After-take-apart = search in c .take-apart in
     let s = args .sheet .now in
     let good = apart-good s (sym (take-apart .ensures) ∙ c .before .apart .given .1) in
     omega arith
@@ -122,26 +122,27 @@ part-run-parts-start-2 c = search needs
 
 part-run-parts-end-2 : tie.Need-part-run-parts-end-2
 part-run-parts-end-2 c =
-    let args = c .before .before .before .before .before .before .before .before .before .before .args in
-    let take-apart = c .before .before .before .before .take-apart in
+    let apart′ = let c : tie.After-apart = search in c .apart .given in
+    let args = let c : tie.Start = search in c .args in
+    let take-apart = let c : tie.After-take-apart = search in c .take-apart in
     let s = args .sheet .now in
-    let good = apart-good s (sym (take-apart .ensures) ∙ c .before .before .apart .given .1) in
+    let good = apart-good s (sym (take-apart .ensures) ∙ apart′ .1) in
     omega arith
 
 slice-relend-prefix-run-parts : tie.Need-slice-relend-prefix-run-parts
 slice-relend-prefix-run-parts c =
-    let args = c .before .before .before .before .before .before .before .before .before .before .before .args in
-    let take-apart = c .before .before .before .before .before .take-apart in
-    let apart = c .before .before .before .apart in
+    let args = let c : tie.Start = search in c .args in
+    let take-apart = let c : tie.After-take-apart = search in c .take-apart in
+    let apart = let c : tie.After-apart = search in c .apart in
     let s = args .sheet .now in
     let good = apart-good s (sym (take-apart .ensures) ∙ apart .given .1) in
     omega arith
 
 slice-aggregate-run-parts : tie.Need-slice-aggregate-run-parts
 slice-aggregate-run-parts c =
-    let args = c .before .before .before .before .before .before .before .before .before .before .before .before .args in
-    let take-apart = c .before .before .before .before .before .before .take-apart in
-    let apart = c .before .before .before .before .apart in
+    let args = let c : tie.Start = search in c .args in
+    let take-apart = let c : tie.After-take-apart = search in c .take-apart in
+    let apart = let c : tie.After-apart = search in c .apart in
     let s = args .sheet .now in
     let good = apart-good s (sym (take-apart .ensures) ∙ apart .given .1) in
     sym (length-take-le _ _ (omega arith))
@@ -157,10 +158,10 @@ same-length-3 c = search needs
 
 returns-4 : tie.Need-returns-4
 returns-4 c =
-    let args = c .before .before .before .before .before .before .before .before .before .before .before .before .before .before .before .before .before .before .args in
-    let take-apart = c .before .before .before .before .before .before .before .before .before .before .before .before .take-apart in
-    let apart = c .before .before .before .before .before .before .before .before .before .before .apart in
-    let run-parts = c .before .before .before .before .run-parts in
+    let args = let c : tie.After-take-apart = search in let c : tie.Start = search in c .args in
+    let take-apart = let c : tie.After-take-apart = search in c .take-apart in
+    let apart = let c : tie.After-apart = search in c .apart in
+    let run-parts = let c : tie.After-run-parts = search in c .run-parts in
     let s = args .sheet .now in
     let good = apart-good s (sym (take-apart .ensures) ∙ apart .given .1) in
     good-run s _ _ (omega arith) (omega arith) good (run-parts .kept .1 .1 .0) (run-parts .ensures)

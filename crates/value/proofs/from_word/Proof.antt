@@ -12,7 +12,10 @@ value-of-requires c κs = search needs
 
 returns : tie.Need-returns
 unfolding parsed
-returns c = rw (← c .before .before .legal .ensures, c .before .if1 .taken, c .value-of .ensures)
+returns c =
+    let legal = let c : tie.After-legal = search in c .legal .ensures in
+    let if1 = let c : tie.Then1 = search in c .if1 .taken in
+    rw (← legal, if1, c .value-of .ensures)
 
 returns-2 : tie.Need-returns-2
 unfolding parsed

@@ -13,18 +13,26 @@ returns c = simp (eq-eqb _ _ (c .if1 .taken))
 returns-2 : tie.Need-returns-2
 unfolding legalWord
 returns-2 c =
-    let h : c .before .before .args .word < 2 ^ 32 = search needs in
-    simp (ne-eqb _ _ (c .before .if1 .left), eq-eqb _ _ (c .if2 .taken), lt-ltb _ _ h)
+    let start = let c : tie.Start = search in c in
+    let if1 = let c : tie.Else1 = search in c .if1 .left in
+    let h : start .args .word < 2 ^ 32 = search needs in
+    simp (ne-eqb _ _ if1, eq-eqb _ _ (c .if2 .taken), lt-ltb _ _ h)
 
 returns-3 : tie.Need-returns-3
 unfolding legalWord endless
 returns-3 c =
-    let h : c .before .before .before .args .word < 2 ^ 32 = search needs in
-    simp (ne-eqb _ _ (c .before .before .if1 .left), ne-eqb _ _ (c .before .if2 .left), eq-eqb _ _ (c .if3 .taken), lt-ltb _ _ h)
+    let start = let c : tie.Start = search in c in
+    let if1 = let c : tie.Else1 = search in c .if1 .left in
+    let if2 = let c : tie.Else2 = search in c .if2 .left in
+    let h : start .args .word < 2 ^ 32 = search needs in
+    simp (ne-eqb _ _ if1, ne-eqb _ _ if2, eq-eqb _ _ (c .if3 .taken), lt-ltb _ _ h)
 
 returns-4 : tie.Need-returns-4
 unfolding legalWord
-returns-4 c = simp (ne-eqb _ _ (c .before .before .if1 .left), ne-eqb _ _ (c .before .if2 .left), ne-eqb _ _ (c .if3 .left))
+returns-4 c =
+    let if1 = let c : tie.Else1 = search in c .if1 .left in
+    let if2 = let c : tie.Else2 = search in c .if2 .left in
+    simp (ne-eqb _ _ if1, ne-eqb _ _ if2, ne-eqb _ _ (c .if3 .left))
 
 pub legal-spec : {M : Type 1} → statement M
 legal-spec = tie.close (tie.spec returns returns-2 returns-3 returns-4)

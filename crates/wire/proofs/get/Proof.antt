@@ -10,6 +10,8 @@ use lib.Arith.{digits-lt}
 use lib.Dec.{lit<}
 use lib.ListN.{getD, drop}
 use lib.Seq.{getD-drop}
+use mir.Syntax.{w8, w64}
+use mir.Val.{Fits}
 use Rattle.wire.specs.Field.{be}
 use Rattle.wire.proofs.get.Statement.{statement}
 use Rattle.wire.proofs.get.Tie as tie
@@ -23,6 +25,20 @@ abbrev μ-loop : tie.MeasureT-loop
 -- seven bytes' number has room for one more
 room : (n i : ℕ) → i ≤ 7 → n < 256 ^ i → n < 256 ^ 7
 room n i h below = lt-of-lt-of-le below (pow-le-pow-right (lit< tt) h)
+
+-- a byte, whichever it is, fits 64 bits
+wide : {byte : ℕ} → Fits w8 byte → Fits w64 byte
+wide known = omega (arith, known)
+
+-- seven bytes' number times 256 has room for it
+more : {m byte : ℕ} (n : ℕ) → n < 256 ^ 7 → m ≤ n * 256 → Fits w8 byte → Fits w64 (m + byte)
+more n below times known = omega (arith, below, times, known)
+
+-- a turn keeps the bound, whichever byte it takes
+bound : {byte : ℕ} (n i : ℕ) → n < 256 ^ i → Fits w8 byte → n * 256 + byte < 256 ^ (i + 1)
+bound {byte} n i below known =
+    let small : byte < 256 = omega (arith, known) in
+    rw (add-one, pow-suc) (digits-lt below small)
 
 -- a turn takes one more byte
 turn : (s : List ℕ) (at i n : ℕ) → n ≡ be i (drop at s) → n * 256 + getD s (at + i) 0 ≡ be (i + 1) (drop at s)
@@ -43,14 +59,12 @@ shared-slice-read-n : tie.Need-shared-slice-read-n Inv-loop μ-loop
 shared-slice-read-n c = omega arith
 
 cast-n : tie.Need-cast-n Inv-loop μ-loop
-cast-n c = omega (arith, c .shared-slice-known .given (c .before .before .before .args .at + c .before .before .loop .i))
+cast-n c = wide (c .shared-slice-known .given _)
 
 add-n-2 : tie.Need-add-n-2 Inv-loop μ-loop
 add-n-2 c =
-    let args = c .before .before .before .args in
-    let loop = c .before .before .loop in
-    let known = c .shared-slice-known in
-    omega (arith, room (loop .n) (loop .i) (omega arith) (loop .inv .1), known .given (args .at + loop .i))
+    let loop = let c : tie.At-loop Inv-loop μ-loop = search in c .loop in
+    more (loop .n) (room (loop .n) (loop .i) (omega arith) (loop .inv .1)) (omega arith) (c .shared-slice-known .given _)
 
 add-i : tie.Need-add-i Inv-loop μ-loop
 add-i c = omega arith
@@ -60,19 +74,19 @@ loop-less c = omega arith
 
 loop-again : tie.Need-loop-again Inv-loop μ-loop
 loop-again c =
-    let args = c .before .before .before .args in
-    let loop = c .before .before .loop in
-    let known = c .shared-slice-known in
-    let byte : getD (args .s .now) (args .at + loop .i) 0 < 256 = omega (arith, known .given (args .at + loop .i)) in (
+    let args = let c : tie.Start Inv-loop μ-loop = search in c .args in
+    let loop = let c : tie.At-loop Inv-loop μ-loop = search in c .loop in (
       omega arith,
-      rw (add-one, pow-suc) (digits-lt (loop .inv .1) byte),
+      bound (loop .n) (loop .i) (loop .inv .1) (c .shared-slice-known .given _),
       turn (args .s .now) (args .at) (loop .i) (loop .n) (loop .inv .2),
     )
 
 returns : tie.Need-returns Inv-loop μ-loop
 returns c =
-    let whole : c .before .loop .i ≡ c .before .before .args .width = omega arith in
-    rw (← whole) (c .before .loop .inv .2)
+    let start = let c : tie.Start Inv-loop μ-loop = search in c in
+    let loop = let c : tie.At-loop Inv-loop μ-loop = search in c .loop in
+    let whole : loop .i ≡ start .args .width = omega arith in
+    rw (← whole) (loop .inv .2)
 
 pub get-spec : {M : Type 1} → statement M
 get-spec =

@@ -54,10 +54,10 @@ loop-less c = omega arith
 
 loop-again : tie.Need-loop-again Inv-loop μ-loop
 loop-again c =
-    let args = c .before .before .args in
+    let args = let c : tie.Start Inv-loop μ-loop = search in c .args in
     let loop = c .before .loop in (
       omega arith,
-      length-set (loop .s) (args .at + (loop .k - 1)) (loop .n % 256) ∙ loop .inv .1,
+      length-set (loop .s) _ _ ∙ loop .inv .1,
       turn (loop .s) (args .at) (loop .k) (loop .n) (omega arith) (omega arith) ∙ loop .inv .2,
     )
 
@@ -65,7 +65,10 @@ same-length : tie.Need-same-length Inv-loop μ-loop
 same-length c = omega arith
 
 returns : tie.Need-returns Inv-loop μ-loop
-returns c = rest (c .before .loop .s) (c .before .before .args .at) (c .before .loop .k) (c .before .loop .n) (omega arith) ∙ c .before .loop .inv .2
+returns c =
+    let start = let c : tie.Start Inv-loop μ-loop = search in c in
+    let loop = let c : tie.At-loop Inv-loop μ-loop = search in c .loop in
+    rest (loop .s) (start .args .at) (loop .k) (loop .n) (omega arith) ∙ loop .inv .2
 
 pub put-spec : {M : Type 1} → statement M
 put-spec =

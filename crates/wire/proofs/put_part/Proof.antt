@@ -44,10 +44,10 @@ loop-less c = omega arith
 
 loop-again : tie.Need-loop-again Inv-loop μ-loop
 loop-again c =
-    let args = c .before .before .before .args in
-    let loop = c .before .before .loop in (
+    let args = let c : tie.Start Inv-loop μ-loop = search in c .args in
+    let loop = let c : tie.At-loop Inv-loop μ-loop = search in c .loop in (
       omega arith,
-      length-set (loop .s) (args .at + loop .i) (getD (args .part .now) (loop .i) 0) ∙ loop .inv .1,
+      length-set (loop .s) _ _ ∙ loop .inv .1,
       turn (args .s .now) (args .at) (args .part .now) (loop .i) (loop .s) (omega arith) (omega arith) (loop .inv .2),
     )
 
@@ -55,7 +55,10 @@ same-length : tie.Need-same-length Inv-loop μ-loop
 same-length c = omega arith
 
 returns : tie.Need-returns Inv-loop μ-loop
-returns c = rw (take-all (c .before .loop .i) (c .before .before .args .part .now) (omega arith)) at (c .before .loop .inv .2)
+returns c =
+    let start = let c : tie.Start Inv-loop μ-loop = search in c in
+    let loop = let c : tie.At-loop Inv-loop μ-loop = search in c .loop in
+    rw (take-all (loop .i) (start .args .part .now) (omega arith)) at (loop .inv .2)
 
 pub put-part-spec : {M : Type 1} → statement M
 put-part-spec =

@@ -17,7 +17,9 @@ returns : tie.Need-returns
 returns c = rw (c .enum-told .given .1)
 
 returns-2 : tie.Need-returns-2
-returns-2 c = rw (c .before .before .self .given .1) (c .kind .ensures)
+returns-2 c =
+    let self = let c : tie.After-self = search in c .self .given in
+    rw (self .1) (c .kind .ensures)
 
 returns-3 : tie.Need-returns-3
 returns-3 c = last-arm (c .before .args .self) (c .match .keys3) .0

@@ -36,7 +36,10 @@ add-result-2 c = search needs
 
 returns : tie.Need-returns
 unfolding replyNumber
-returns c = rw (c .before .before .code .ensures, c .before .kind .ensures, c .word .ensures)
+returns c =
+    let code = let c : tie.After-code = search in c .code .ensures in
+    let kind = let c : tie.After-kind = search in c .kind .ensures in
+    rw (code, kind, c .word .ensures)
 
 pub number-spec : {M : Type 1} → statement M
 number-spec =

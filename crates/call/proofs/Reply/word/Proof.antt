@@ -14,13 +14,19 @@ word-requires : tie.Need-word-requires
 word-requires c κs = search needs
 
 returns : tie.Need-returns
-returns c = rw (c .before .before .self .given .1, c .if1 .taken)
+returns c =
+    let self = let c : tie.After-self = search in c .self .given in
+    rw (self .1, c .if1 .taken)
 
 returns-2 : tie.Need-returns-2
-returns-2 c = rw (c .before .before .self .given .1, c .if1 .left)
+returns-2 c =
+    let self = let c : tie.After-self = search in c .self .given in
+    rw (self .1, c .if1 .left)
 
 returns-3 : tie.Need-returns-3
-returns-3 c = rw (c .before .before .self2 .given .1) (c .word .ensures)
+returns-3 c =
+    let self2 = let c : tie.After-self2 = search in c .self2 .given in
+    rw (self2 .1) (c .word .ensures)
 
 returns-4 : tie.Need-returns-4
 returns-4 c = last-arm (c .before .args .self) (c .match .keys3) .1

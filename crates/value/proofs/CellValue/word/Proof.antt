@@ -26,14 +26,20 @@ real-word-requires : tie.Need-real-word-requires
 real-word-requires c κs = search needs
 
 returns : tie.Need-returns
-returns c = rw (c .before .before .self .given .1) (c .truth-word .ensures)
+returns c =
+    let self = let c : tie.After-self = search in c .self .given in
+    rw (self .1) (c .truth-word .ensures)
 
 returns-2 : tie.Need-returns-2
 returns-2 c =
-    rw (c .before .before .self2 .given .1) (c .whole-word .ensures ∙ ap (ofZ w32) (toZ-ofZ w32 (c .before .before .self2 .given .0 .0) (record { sfits = c .before .known-told2 .given .0 .1 })))
+    let self2 = let c : tie.After-self2 = search in c .self2 .given in
+    let known-told2 = let c : tie.After-known-told2 = search in c .known-told2 .given in
+    rw (self2 .1) (c .whole-word .ensures ∙ ap (ofZ w32) (toZ-ofZ w32 (self2 .0 .0) (record { sfits = known-told2 .0 .1 })))
 
 returns-3 : tie.Need-returns-3
-returns-3 c = rw (c .before .before .self3 .given .1) (c .real-word .ensures)
+returns-3 c =
+    let self3 = let c : tie.After-self3 = search in c .self3 .given in
+    rw (self3 .1) (c .real-word .ensures)
 
 pub word-spec : {M : Type 1} → statement M
 word-spec =

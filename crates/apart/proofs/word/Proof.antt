@@ -1,8 +1,8 @@
 -- `word` meets its contract: four bytes are two pairs.
-use Rattle.sheet.proofs.Reading.{word-at}
+use Rattle.apart.proofs.Reading.{word-at}
 use borrow.Author.Needs.{needs}
-use Rattle.sheet.proofs.word.Statement.{statement}
-use Rattle.sheet.proofs.word.Tie as tie
+use Rattle.apart.proofs.word.Statement.{statement}
+use Rattle.apart.proofs.word.Tie as tie
 
 pair-requires : tie.Need-pair-requires
 pair-requires c κs = search needs
@@ -21,7 +21,7 @@ cast-result c = search needs
 
 returns : tie.Need-returns
 returns c =
-    let args = c .before .before .before .args in
+    let args = let c : tie.Start = search in c .args in
     rw (c .before .pair .ensures .0, c .pair2 .ensures .0) (word-at (args .s .now))
 
 pub word-spec : {M : Type 1} → statement M

@@ -3,8 +3,8 @@ use mathlib.Core.Path.{sym}
 use native.Mathlib.Omega.{arith}
 use lib.ListN.{List·getD-eq-default}
 use borrow.Author.Needs.{needs}
-use Rattle.sheet.proofs.byte.Statement.{statement}
-use Rattle.sheet.proofs.byte.Tie as tie
+use Rattle.apart.proofs.byte.Statement.{statement}
+use Rattle.apart.proofs.byte.Tie as tie
 
 shared-slice-read-result : tie.Need-shared-slice-read-result
 shared-slice-read-result c = search needs

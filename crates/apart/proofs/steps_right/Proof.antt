@@ -1,11 +1,11 @@
 -- `steps_right` meets its contract: the tests are the definition's, in its order.
 use mathlib.Core.Path.{refl, sym}
 use borrow.Author.Tests.{eq-eqb, ne-eqb}
-use Rattle.sheet.specs.Apart.{stepsRight}
-use Rattle.sheet.proofs.Tests.{fails, goes-on}
+use Rattle.apart.specs.Apart.{stepsRight}
+use Rattle.apart.proofs.Tests.{fails, goes-on}
 use borrow.Author.Needs.{needs}
-use Rattle.sheet.proofs.steps_right.Statement.{statement}
-use Rattle.sheet.proofs.steps_right.Tie as tie
+use Rattle.apart.proofs.steps_right.Statement.{statement}
+use Rattle.apart.proofs.steps_right.Tie as tie
 
 mul-if1 : tie.Need-mul-if1
 mul-if1 c = search needs

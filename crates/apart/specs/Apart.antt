@@ -11,8 +11,8 @@ use Rattle.rules.specs.Model.{controller}
 use Rattle.rules.specs.LogsRight.{cellCountRight}
 use Rattle.rules.specs.Area.{descriptionSize, describedCells}
 use Rattle.rules.specs.declared.Cell.{Cell}
-use Rattle.sheet.specs.declared.Sheet.{Sheet}
-use Rattle.sheet.specs.declared.Sheet.the-variants.{Good, Bad}
+use Rattle.apart.specs.declared.Sheet.{Sheet}
+use Rattle.apart.specs.declared.Sheet.the-variants.{Good, Bad}
 
 -- steps of 8 bytes, at most 4,096
 abbrev pub stepSize : ℕ

@@ -9,8 +9,8 @@ use lib.ListN.{length, take, drop}
 use Rattle.wire.specs.Field.{be}
 use Rattle.slot.proofs.Logic.{and-left, and-right}
 use Rattle.rules.specs.LogsRight.{cellCountRight}
-use Rattle.sheet.specs.declared.Sheet.the-variants.{Good, Bad}
-use Rattle.sheet.specs.Apart.{describedLength, stepsLength, firstStep, descriptions, cellsOf, stepsOf, wholeSheet, describedRight, stepsRight, descriptionsLegal, goodSheet, takenApart}
+use Rattle.apart.specs.declared.Sheet.the-variants.{Good, Bad}
+use Rattle.apart.specs.Apart.{describedLength, stepsLength, firstStep, descriptions, cellsOf, stepsOf, wholeSheet, describedRight, stepsRight, descriptionsLegal, goodSheet, takenApart}
 
 module _ (s : List ℕ) where
   pub bad : goodSheet s ≡ false → Bad ≡ takenApart s

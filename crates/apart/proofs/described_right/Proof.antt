@@ -2,11 +2,11 @@
 use mathlib.Core.Path.{refl, sym}
 use borrow.Author.Tests.{eq-eqb, ne-eqb, le-leb, lt-leb}
 use Rattle.rules.specs.LogsRight.{cellCountRight}
-use Rattle.sheet.specs.Apart.{describedRight}
-use Rattle.sheet.proofs.Tests.{fails, goes-on}
+use Rattle.apart.specs.Apart.{describedRight}
+use Rattle.apart.proofs.Tests.{fails, goes-on}
 use borrow.Author.Needs.{needs}
-use Rattle.sheet.proofs.described_right.Statement.{statement}
-use Rattle.sheet.proofs.described_right.Tie as tie
+use Rattle.apart.proofs.described_right.Statement.{statement}
+use Rattle.apart.proofs.described_right.Tie as tie
 
 mul-if1 : tie.Need-mul-if1
 mul-if1 c = search needs

@@ -1,24 +1,26 @@
 -- `pair` meets its contract: past the end both bytes are 0.
 use native.Mathlib.Omega.{arith}
-use Rattle.sheet.proofs.Reading.{pair-at, pair-past}
+use Rattle.apart.proofs.Reading.{pair-at, pair-past}
 use borrow.Author.Needs.{needs}
-use Rattle.sheet.proofs.pair.Statement.{statement}
-use Rattle.sheet.proofs.pair.Tie as tie
+use Rattle.apart.proofs.pair.Statement.{statement}
+use Rattle.apart.proofs.pair.Tie as tie
 
 returns : tie.Need-returns
-returns c = (pair-past (c .before .before .args .s .now) (c .before .before .args .at) (omega arith), omega arith)
+returns c =
+    let start = let c : tie.Start = search in c in
+    (pair-past (start .args .s .now) (start .args .at) (omega arith), omega arith)
 
 shared-slice-read-result : tie.Need-shared-slice-read-result
 shared-slice-read-result c = search needs
 
 cast-result : tie.Need-cast-result
 cast-result c =
-    let args = c .before .before .before .args in
+    let args = let c : tie.Start = search in c .args in
     omega (arith, c .shared-slice-known2 .given (args .at))
 
 mul-result : tie.Need-mul-result
 mul-result c =
-    let args = c .before .before .before .args in
+    let args = let c : tie.Start = search in c .args in
     omega (arith, c .shared-slice-known2 .given (args .at))
 
 add-byte : tie.Need-add-byte
@@ -32,12 +34,12 @@ cast-result-2 c = search needs
 
 add-result : tie.Need-add-result
 add-result c =
-    let args = c .before .before .before .before .args in
+    let args = let c : tie.Start = search in c .args in
     omega (arith, c .before .shared-slice-known2 .given (args .at))
 
 returns-2 : tie.Need-returns-2
 returns-2 c =
-    let args = c .before .before .before .before .args in
+    let args = let c : tie.Start = search in c .args in
     (rw (c .byte .ensures) (pair-at (args .s .now) (args .at)), omega (arith, c .before .shared-slice-known2 .given (args .at)))
 
 pub pair-spec : {M : Type 1} → statement M

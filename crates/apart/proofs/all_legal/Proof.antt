@@ -11,10 +11,10 @@ use Rattle.wire.proofs.Laws.Field.{be-bound, bytes-drop}
 use Rattle.fresh.specs.Parts.{legalCell}
 use Rattle.fresh.proofs.Parts.{described-length}
 use Rattle.fresh.proofs.Tested.{all-failed, all-passed, all-tested}
-use Rattle.sheet.specs.Apart.{descriptionsLegal}
-use Rattle.sheet.proofs.Reading.{described-test}
-use Rattle.sheet.proofs.all_legal.Statement.{statement}
-use Rattle.sheet.proofs.all_legal.Tie as tie
+use Rattle.apart.specs.Apart.{descriptionsLegal}
+use Rattle.apart.proofs.Reading.{described-test}
+use Rattle.apart.proofs.all_legal.Statement.{statement}
+use Rattle.apart.proofs.all_legal.Tie as tie
 
 abbrev Inv-loop : tie.InvT-loop
 Inv-loop ds n k₀ k = (k ≤ n) × (descriptionsLegal ds ≡ all legalCell (drop k (describedCells ds)))
@@ -40,9 +40,9 @@ get-requires c κs = omega arith
 
 cast-legal : tie.Need-cast-legal Inv-loop μ-loop
 cast-legal c =
-    let args = c .before .before .before .before .before .args in
-    let shared-slice-known = c .before .before .before .before .shared-slice-known in
-    let loop = c .before .before .before .loop in
+    let args = let c : tie.Start Inv-loop μ-loop = search in c .args in
+    let shared-slice-known = let c : tie.After-shared-slice-known Inv-loop μ-loop = search in c .shared-slice-known in
+    let loop = let c : tie.At-loop Inv-loop μ-loop = search in c .loop in
     let at = 5 * loop .k + 1 in
     omega (arith, c .get .ensures, be-bound 4 (drop at (args .ds .now)) (bytes-drop at (args .ds .now) (λ i. (shared-slice-known .given i) .fits)))
 
@@ -51,10 +51,12 @@ legal-requires c κs = tt
 
 returns : tie.Need-returns Inv-loop μ-loop
 returns c =
-    let args = c .before .before .before .before .before .before .before .args in
-    let loop = c .before .before .before .before .before .loop in
+    let get = let c : tie.After-get Inv-loop μ-loop = search in c .get .ensures in
+    let legal = let c : tie.After-legal Inv-loop μ-loop = search in c .legal .ensures in
+    let args = let c : tie.Start Inv-loop μ-loop = search in c .args in
+    let loop = let c : tie.At-loop Inv-loop μ-loop = search in c .loop in
     let ds = args .ds .now in
-    let test = sym (described-test ds (loop .k) _ (omega arith) (c .before .before .get .ensures)) ∙ sym (c .before .legal .ensures) ∙ not-true _ (c .if1 .taken) in
+    let test = sym (described-test ds (loop .k) _ (omega arith) get) ∙ sym legal ∙ not-true _ (c .if1 .taken) in
     sym (loop .inv .1 ∙ all-failed legalCell noCell (describedCells ds) (loop .k) (rw (described-length ds) (omega arith)) test)
 
 add-k : tie.Need-add-k Inv-loop μ-loop
@@ -65,15 +67,17 @@ loop-less c = omega arith
 
 loop-again : tie.Need-loop-again Inv-loop μ-loop
 loop-again c =
-    let args = c .before .before .before .before .before .before .before .args in
-    let loop = c .before .before .before .before .before .loop in
+    let get = let c : tie.After-get Inv-loop μ-loop = search in c .get .ensures in
+    let legal = let c : tie.After-legal Inv-loop μ-loop = search in c .legal .ensures in
+    let args = let c : tie.Start Inv-loop μ-loop = search in c .args in
+    let loop = let c : tie.At-loop Inv-loop μ-loop = search in c .loop in
     let ds = args .ds .now in
-    let test = sym (described-test ds (loop .k) _ (omega arith) (c .before .before .get .ensures)) ∙ sym (c .before .legal .ensures) ∙ not-false _ (c .if1 .left) in
+    let test = sym (described-test ds (loop .k) _ (omega arith) get) ∙ sym legal ∙ not-false _ (c .if1 .left) in
     (omega arith, loop .inv .1 ∙ all-passed legalCell noCell (describedCells ds) (loop .k) (rw (described-length ds) (omega arith)) test)
 
 returns-2 : tie.Need-returns-2 Inv-loop μ-loop
 returns-2 c =
-    let args = c .before .before .before .args in
+    let args = let c : tie.Start Inv-loop μ-loop = search in c .args in
     let ds = args .ds .now in
     let loop = c .before .loop in
     sym (loop .inv .1 ∙ all-tested legalCell noCell (describedCells ds) (loop .k) (rw (described-length ds) (omega arith)))
