@@ -74,11 +74,10 @@ pub fn find_read(s: &[u8], at: usize, width: usize, cell: u8) -> ReadFound
     requires { ⌜ (width ≤ 8) × (at + slotSize width ≤ length (now s)) ⌝ }
     ensures { λ r. ⌜ r ≡ readFoundIn width at (now (s .entry)) cell ⌝ }
 {
-    let log = at + 5 + 2 * width;
     let count = s[at + 3] as usize;
     let mut i = 0;
     while i < SlotRecord::READS && i < count {
-        let e = entries::read_of(s, log + ReadEntry::SIZE * i);
+        let e = read_at(s, at, width, i);
         if e.cell == cell {
             return ReadFound::Entry(e);
         }
@@ -92,11 +91,10 @@ pub fn find_write(s: &[u8], at: usize, width: usize, cell: u8) -> WriteFound
     requires { ⌜ (width ≤ 8) × (at + slotSize width ≤ length (now s)) ⌝ }
     ensures { λ r. ⌜ r ≡ writeFoundIn width at (now (s .entry)) cell ⌝ }
 {
-    let log = at + 5 + 2 * width + READ_LOG;
     let count = s[at + 4] as usize;
     let mut i = 0;
     while i < SlotRecord::WRITES && i < count {
-        let e = entries::write_of(s, log + WriteEntry::SIZE * i);
+        let e = write_at(s, at, width, i);
         if e.cell == cell {
             return WriteFound::Entry(e);
         }
@@ -110,11 +108,10 @@ pub fn some_marked(s: &[u8], at: usize, width: usize) -> bool
     requires { ⌜ (width ≤ 8) × (at + slotSize width ≤ length (now s)) ⌝ }
     ensures { λ r. ⌜ r ≡ markedIn width at (now (s .entry)) ⌝ }
 {
-    let log = at + 5 + 2 * width;
     let count = s[at + 3] as usize;
     let mut i = 0;
     while i < SlotRecord::READS && i < count {
-        let e = entries::read_of(s, log + ReadEntry::SIZE * i);
+        let e = read_at(s, at, width, i);
         if e.mark {
             return true;
         }
