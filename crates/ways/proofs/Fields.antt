@@ -1,7 +1,10 @@
 -- What a step learns of its slot from the fields alone: the phase that it asked, and the fields that it took out, are its record's.
 use mathlib.Core.Path.{_≡_, sym, ap, _∙_}
 use Prim.Native.Nat.{ℕ}
+use lib.ListN.{getD}
+use Rattle.slot.specs.declared.WriteEntry.{WriteEntry}
 use Rattle.slot.specs.declared.SlotRecord.{SlotRecord}
+use Rattle.slot.specs.Layout.{noWrite}
 use Rattle.slot.specs.Fields.{fieldsOf}
 
 -- a number that was asked, and what was found of it
@@ -29,3 +32,7 @@ fields v e =
       start = ap (λ (u : SlotRecord). u .start) e;
       commit = ap (λ (u : SlotRecord). u .commit) e;
     }
+
+-- the write entry that is read at the fields' place is the one at the record's
+pub entry-at : {h v : SlotRecord} {e : WriteEntry} → Fields h v → e ≡ getD (v .writes) (h .taken) noWrite → getD (v .writes) (v .taken) noWrite ≡ e
+entry-at {v = v} f found = sym (found ∙ ap (λ (n : ℕ). getD (v .writes) n noWrite) (f .taken))

@@ -55,7 +55,7 @@ store-fields-requires c κs =
     let if1 = let c : tie.Else1 = search in c .if1 .left in
     let fields-at = let c : tie.After-fields-at = search in c .fields-at .ensures in
     let x = slotAt (stateIn (start .args .s .now)) (start .args .i) in
-    (((start .pre .0), (start .pre .1)), finished-stands x _ refl (same phase-at if1) (finished-fields _ fields-at (c .finished .ensures)) .kept)
+    (start .pre, finished-stands x _ refl (same phase-at if1) (finished-fields _ fields-at (c .finished .ensures)) .kept)
 
 same-length-3 : tie.Need-same-length-3
 same-length-3 c = search needs

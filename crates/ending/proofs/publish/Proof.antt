@@ -1,16 +1,13 @@
 -- A publishing slot of a good area has a cell left, which is a cell of the area: the fields after it are stored, and with them the published cell.
 use borrow.Author.Needs.{needs}
-use mathlib.Core.Path.{_≡_, refl, sym, ap, _∙_}
-use Prim.Native.Nat.{ℕ}
+use mathlib.Core.Path.{refl, _∙_}
 use native.Mathlib.Omega.{arith}
-use lib.ListN.{getD}
-use Rattle.slot.specs.Layout.{noWrite}
 use Rattle.slot.proofs.Laws.Fields.{published-fields}
 use Rattle.rules.specs.Model.{controller}
 use Rattle.rules.specs.State.{slotAt}
 use Rattle.rules.specs.Layout.{lay}
 use Rattle.area.specs.Good.{stateIn}
-use Rattle.ways.proofs.Fields.{other, same, fields}
+use Rattle.ways.proofs.Fields.{other, same, fields, entry-at}
 use Rattle.ways.proofs.Done.{refuses, leaves}
 use Rattle.ending.proofs.Ways.{published-stands, publish-4, publish-0, next-of}
 use Rattle.ending.proofs.publish.Statement.{statement}
@@ -34,12 +31,12 @@ write-at-requires c κs =
     let phase-at = let c : tie.After-phase-at = search in c .phase-at .ensures in
     let if1 = let c : tie.Else1 = search in c .if1 .left in
     let fields-at = let c : tie.After-fields-at = search in c .fields-at .ensures in
-    let l = let c : tie.Start = search in c .args .s .now in
+    let l = start .args .s .now in
     let v = lay (slotAt (stateIn l) (start .args .i)) in
     let f = fields v fields-at in
     let p = same phase-at if1 in
     let next = next-of (start .pre .0) (start .pre .1) refl p in
-    ((start .pre .0), (start .pre .1), omega arith)
+    (start .pre .0, start .pre .1, omega arith)
 
 cell-at-requires : tie.Need-cell-at-requires
 cell-at-requires c κs =
@@ -47,15 +44,14 @@ cell-at-requires c κs =
     let phase-at = let c : tie.After-phase-at = search in c .phase-at .ensures in
     let if1 = let c : tie.Else1 = search in c .if1 .left in
     let fields-at = let c : tie.After-fields-at = search in c .fields-at .ensures in
-    let write-at-result = let c : tie.After-write-at = search in c .write-at .result in
-    let write-at-ensures = let c : tie.After-write-at = search in c .write-at .ensures in
-    let l = let c : tie.Start = search in c .args .s .now in
+    let write-at = let c : tie.After-write-at = search in c .write-at .ensures in
+    let l = start .args .s .now in
     let v = lay (slotAt (stateIn l) (start .args .i)) in
     let f = fields v fields-at in
     let p = same phase-at if1 in
     let next = next-of (start .pre .0) (start .pre .1) refl p in
-    let entry : getD (v .writes) (v .taken) noWrite ≡ write-at-result = sym (write-at-ensures ∙ ap (λ (n : ℕ). getD (v .writes) n noWrite) (f .taken)) in
-    ((start .pre .0), rw (← entry) (next .inside))
+    let entry = entry-at f write-at in
+    (start .pre .0, rw (← entry) (next .inside))
 
 published-one-requires : tie.Need-published-one-requires
 published-one-requires c κs =
@@ -63,7 +59,7 @@ published-one-requires c κs =
     let phase-at = let c : tie.After-phase-at = search in c .phase-at .ensures in
     let if1 = let c : tie.Else1 = search in c .if1 .left in
     let fields-at = let c : tie.After-fields-at = search in c .fields-at .ensures in
-    let l = let c : tie.Start = search in c .args .s .now in
+    let l = start .args .s .now in
     let v = lay (slotAt (stateIn l) (start .args .i)) in
     let f = fields v fields-at in
     let p = same phase-at if1 in
@@ -76,16 +72,15 @@ store-fields-cell-requires c κs =
     let phase-at = let c : tie.After-phase-at = search in c .phase-at .ensures in
     let if1 = let c : tie.Else1 = search in c .if1 .left in
     let fields-at = let c : tie.After-fields-at = search in c .fields-at .ensures in
-    let write-at-result = let c : tie.After-write-at = search in c .write-at .result in
-    let write-at-ensures = let c : tie.After-write-at = search in c .write-at .ensures in
-    let l = let c : tie.Start = search in c .args .s .now in
+    let write-at = let c : tie.After-write-at = search in c .write-at .ensures in
+    let l = start .args .s .now in
     let v = lay (slotAt (stateIn l) (start .args .i)) in
     let f = fields v fields-at in
     let p = same phase-at if1 in
     let next = next-of (start .pre .0) (start .pre .1) refl p in
-    let entry : getD (v .writes) (v .taken) noWrite ≡ write-at-result = sym (write-at-ensures ∙ ap (λ (n : ℕ). getD (v .writes) n noWrite) (f .taken)) in
+    let entry = entry-at f write-at in
     let kept = published-stands (slotAt (stateIn l) (start .args .i)) v refl p (published-fields v fields-at p (c .published-one .ensures)) .kept in
-    (((start .pre .0), (start .pre .1), rw (← entry) (next .inside)), kept)
+    ((start .pre .0, start .pre .1, rw (← entry) (next .inside)), kept)
 
 same-length-2 : tie.Need-same-length-2
 same-length-2 c = search needs
@@ -96,17 +91,16 @@ returns-2 c =
     let phase-at = let c : tie.After-phase-at = search in c .phase-at .ensures in
     let if1 = let c : tie.Else1 = search in c .if1 .left in
     let fields-at = let c : tie.After-fields-at = search in c .fields-at .ensures in
-    let write-at-result = let c : tie.After-write-at = search in c .write-at .result in
-    let write-at-ensures = let c : tie.After-write-at = search in c .write-at .ensures in
+    let write-at = let c : tie.After-write-at = search in c .write-at .ensures in
     let cell-at = let c : tie.After-cell-at = search in c .cell-at .ensures in
     let published-one = let c : tie.After-published-one = search in c .published-one .ensures in
     let store-fields-cell = let c : tie.After-store-fields-cell = search in c .store-fields-cell .ensures in
-    let l = (start .args .s .now) in
+    let l = start .args .s .now in
     let v = lay (slotAt (stateIn l) (start .args .i)) in
     let f = fields v fields-at in
     let p = same phase-at if1 in
     let next = next-of (start .pre .0) (start .pre .1) refl p in
-    let entry : getD (v .writes) (v .taken) noWrite ≡ write-at-result = sym (write-at-ensures ∙ ap (λ (n : ℕ). getD (v .writes) n noWrite) (f .taken)) in
+    let entry = entry-at f write-at in
     leaves _ (publish-0 controller _ _ refl p (next .logged ∙ entry) cell-at (f .commit) (published-fields v fields-at p published-one)) store-fields-cell
 
 pub publish-spec : {M : Type 1} → statement M

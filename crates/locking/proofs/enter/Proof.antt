@@ -40,7 +40,7 @@ returns-2 c =
     let S = stateIn (start .args .s .now) in
     let v = lay (slotAt S (start .args .i)) in
     let f = fields v fields-at in
-    let missing : v .taken < v .writecount = omega (arith, (c .if2 .taken)) in
+    let missing : v .taken < v .writecount = omega (arith, c .if2 .taken) in
     refuses _ (enter-missing controller _ _ refl (same phase-at if1) missing)
 
 clock-requires : tie.Need-clock-requires
@@ -84,7 +84,7 @@ store-reads-clock-requires c κs =
     let v = lay (slotAt S (start .args .i)) in
     let f = fields v fields-at in
     let kept = entered-stands (slotAt S (start .args .i)) v refl (same phase-at if1) (withMark S (start .args .i) (v .start)) marked-reads (entered-alone v fields-at entered) .kept in
-    (((start .pre .0), (start .pre .1)), kept)
+    (start .pre, kept)
 
 some-marked-requires : tie.Need-some-marked-requires
 some-marked-requires c κs = search needs

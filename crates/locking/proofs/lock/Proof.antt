@@ -1,17 +1,15 @@
 -- `lock` meets its contract: the entry at "taken" of the write log is the lowest one missing. Its cell stands below n, since the area is good, and is taken unless another
 -- slot holds it.
 use borrow.Author.Needs.{needs}
-use mathlib.Core.Path.{_≡_, refl, sym, ap, _∙_}
-use Prim.Native.Nat.{ℕ, _<_, _≤_}
+use mathlib.Core.Path.{refl}
+use Prim.Native.Nat.{_<_, _≤_}
 use native.Mathlib.Omega.{arith}
-use lib.ListN.{getD}
-use Rattle.slot.specs.Layout.{noWrite}
 use Rattle.slot.proofs.Laws.Fields.{locked-fields}
 use Rattle.rules.specs.Model.{controller}
 use Rattle.rules.specs.State.{slotAt}
 use Rattle.rules.specs.Layout.{lay}
 use Rattle.area.specs.Good.{stateIn}
-use Rattle.ways.proofs.Fields.{other, same, fields}
+use Rattle.ways.proofs.Fields.{other, same, fields, entry-at}
 use Rattle.ways.proofs.Done.{refuses, leaves}
 use Rattle.ways.proofs.Known.{known}
 use Rattle.locking.proofs.Ways.{locked-stands, lock-4, lock-none, lock-11, lock-0}
@@ -41,7 +39,7 @@ returns-2 c =
     let fields-at = let c : tie.After-fields-at = search in c .fields-at .ensures in
     let v = lay (slotAt (stateIn (start .args .s .now)) (start .args .i)) in
     let f = fields v fields-at in
-    let none : v .writecount ≤ v .taken = omega (arith, (c .if2 .taken)) in
+    let none : v .writecount ≤ v .taken = omega (arith, c .if2 .taken) in
     refuses _ (lock-none controller _ _ refl (same phase-at if1) none)
 
 write-at-requires : tie.Need-write-at-requires
@@ -52,21 +50,20 @@ write-at-requires c κs =
     let v = lay (slotAt (stateIn (start .args .s .now)) (start .args .i)) in
     let f = fields v fields-at in
     let k = known (start .pre .0) (start .pre .1) refl in
-    ((start .pre .0), (start .pre .1), omega (arith, if2))
+    (start .pre .0, start .pre .1, omega (arith, if2))
 
 cell-at-requires : tie.Need-cell-at-requires
 cell-at-requires c κs =
     let start = let c : tie.Start = search in c in
     let fields-at = let c : tie.After-fields-at = search in c .fields-at .ensures in
     let if2 = let c : tie.Else2 = search in c .if2 .left in
-    let write-at-result = let c : tie.After-write-at = search in c .write-at .result in
-    let write-at-ensures = let c : tie.After-write-at = search in c .write-at .ensures in
+    let write-at = let c : tie.After-write-at = search in c .write-at .ensures in
     let v = lay (slotAt (stateIn (start .args .s .now)) (start .args .i)) in
     let f = fields v fields-at in
     let k = known (start .pre .0) (start .pre .1) refl in
     let missing : v .taken < v .writecount = omega (arith, if2) in
-    let entry : getD (v .writes) (v .taken) noWrite ≡ write-at-result = sym (write-at-ensures ∙ ap (λ (n : ℕ). getD (v .writes) n noWrite) (f .taken)) in
-    ((start .pre .0), rw (← entry) (k .writesBelow (v .taken) missing))
+    let entry = entry-at f write-at in
+    (start .pre .0, rw (← entry) (k .writesBelow (v .taken) missing))
 
 held-by-other-requires : tie.Need-held-by-other-requires
 held-by-other-requires c κs = search needs
@@ -81,14 +78,13 @@ returns-3 c =
     let if1 = let c : tie.Else1 = search in c .if1 .left in
     let fields-at = let c : tie.After-fields-at = search in c .fields-at .ensures in
     let if2 = let c : tie.Else2 = search in c .if2 .left in
-    let write-at-result = let c : tie.After-write-at = search in c .write-at .result in
-    let write-at-ensures = let c : tie.After-write-at = search in c .write-at .ensures in
+    let write-at = let c : tie.After-write-at = search in c .write-at .ensures in
     let cell-at = let c : tie.After-cell-at = search in c .cell-at .ensures in
     let held-by-other = let c : tie.After-held-by-other = search in c .held-by-other .ensures in
     let v = lay (slotAt (stateIn (start .args .s .now)) (start .args .i)) in
     let f = fields v fields-at in
     let missing : v .taken < v .writecount = omega (arith, if2) in
-    let entry : getD (v .writes) (v .taken) noWrite ≡ write-at-result = sym (write-at-ensures ∙ ap (λ (n : ℕ). getD (v .writes) n noWrite) (f .taken)) in
+    let entry = entry-at f write-at in
     refuses _ (lock-11 controller _ _ refl (same phase-at if1) missing entry cell-at held-by-other (c .if3 .taken))
 
 add-t8 : tie.Need-add-t8
@@ -104,15 +100,14 @@ store-fields-cell-requires c κs =
     let if1 = let c : tie.Else1 = search in c .if1 .left in
     let fields-at = let c : tie.After-fields-at = search in c .fields-at .ensures in
     let if2 = let c : tie.Else2 = search in c .if2 .left in
-    let write-at-result = let c : tie.After-write-at = search in c .write-at .result in
-    let write-at-ensures = let c : tie.After-write-at = search in c .write-at .ensures in
+    let write-at = let c : tie.After-write-at = search in c .write-at .ensures in
     let v = lay (slotAt (stateIn (start .args .s .now)) (start .args .i)) in
     let f = fields v fields-at in
     let k = known (start .pre .0) (start .pre .1) refl in
     let missing : v .taken < v .writecount = omega (arith, if2) in
-    let entry : getD (v .writes) (v .taken) noWrite ≡ write-at-result = sym (write-at-ensures ∙ ap (λ (n : ℕ). getD (v .writes) n noWrite) (f .taken)) in
+    let entry = entry-at f write-at in
     let p = same phase-at if1 in
-    (((start .pre .0), (start .pre .1), rw (← entry) (k .writesBelow (v .taken) missing)), locked-stands (slotAt (stateIn (start .args .s .now)) (start .args .i)) v refl p (locked-fields v fields-at p (c .locked-one .ensures)) .kept)
+    ((start .pre .0, start .pre .1, rw (← entry) (k .writesBelow (v .taken) missing)), locked-stands (slotAt (stateIn (start .args .s .now)) (start .args .i)) v refl p (locked-fields v fields-at p (c .locked-one .ensures)) .kept)
 
 same-length-4 : tie.Need-same-length-4
 same-length-4 c = search needs
@@ -124,8 +119,7 @@ returns-4 c =
     let if1 = let c : tie.Else2 = search in let c : tie.Else1 = search in c .if1 .left in
     let fields-at = let c : tie.Else2 = search in let c : tie.After-fields-at = search in c .fields-at .ensures in
     let if2 = let c : tie.Else2 = search in c .if2 .left in
-    let write-at-result = let c : tie.After-write-at = search in c .write-at .result in
-    let write-at-ensures = let c : tie.After-write-at = search in c .write-at .ensures in
+    let write-at = let c : tie.After-write-at = search in c .write-at .ensures in
     let cell-at = let c : tie.After-cell-at = search in c .cell-at .ensures in
     let held-by-other = let c : tie.After-held-by-other = search in c .held-by-other .ensures in
     let if3 = let c : tie.Else3 = search in c .if3 .left in
@@ -134,7 +128,7 @@ returns-4 c =
     let v = lay (slotAt (stateIn (start .args .s .now)) (start .args .i)) in
     let f = fields v fields-at in
     let missing : v .taken < v .writecount = omega (arith, if2) in
-    let entry : getD (v .writes) (v .taken) noWrite ≡ write-at-result = sym (write-at-ensures ∙ ap (λ (n : ℕ). getD (v .writes) n noWrite) (f .taken)) in
+    let entry = entry-at f write-at in
     let p = same phase-at if1 in
     leaves _ (lock-0 controller _ _ refl p missing entry cell-at held-by-other if3 (locked-fields v fields-at p locked-one)) store-fields-cell
 

@@ -37,7 +37,7 @@ store-fields-requires c κs =
     let phase-at = let c : tie.After-phase-at = search in c .phase-at .ensures in
     let if1 = let c : tie.Else1 = search in c .if1 .left in
     let idle = ap lay (is-idle (slotAt (stateIn (start .args .s .now)) (start .args .i)) _ refl (same phase-at if1)) in
-    (((start .pre .0), (start .pre .1)), begun-stands (begun-fields _ _ idle (c .begun .ensures)) .kept)
+    (start .pre, begun-stands (begun-fields _ _ idle (c .begun .ensures)) .kept)
 
 same-length-2 : tie.Need-same-length-2
 same-length-2 c = search needs

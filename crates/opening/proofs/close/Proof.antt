@@ -33,7 +33,7 @@ store-fields-requires c κs =
     let if1 = let c : tie.Else1 = search in c .if1 .left in
     let fields-at = let c : tie.After-fields-at = search in c .fields-at .ensures in
     let x = slotAt (stateIn (start .args .s .now)) (start .args .i) in
-    (((start .pre .0), (start .pre .1)), closed-stands x _ refl (same phase-at if1) (closed-fields _ fields-at (c .closed .ensures)) .kept)
+    (start .pre, closed-stands x _ refl (same phase-at if1) (closed-fields _ fields-at (c .closed .ensures)) .kept)
 
 same-length-2 : tie.Need-same-length-2
 same-length-2 c = search needs

@@ -36,7 +36,7 @@ cell-at-requires : tie.Need-cell-at-requires
 cell-at-requires c κs =
     let start = let c : tie.Start = search in c in
     let count = let c : tie.After-count = search in c .count .ensures in
-    ((start .pre .0), rw (← count-read controller _) (omega (arith, count)))
+    (start .pre .0, rw (← count-read controller _) (omega (arith, count)))
 
 find-write-requires : tie.Need-find-write-requires
 find-write-requires c κs = search needs
@@ -102,7 +102,7 @@ read-shared-requires c κs =
     let phase-at = let c : tie.After-cell-at = search in let c : tie.After-phase-at = search in c .phase-at .ensures in
     let if1 = let c : tie.After-cell-at = search in let c : tie.Else1 = search in c .if1 .left in
     let cell-at = let c : tie.After-cell-at = search in c .cell-at .ensures in
-    (((start .pre .0), (start .pre .1)), ((same phase-at if1), cell-at))
+    (start .pre, (same phase-at if1, cell-at))
 
 same-length-5 : tie.Need-same-length-5
 same-length-5 c = search needs

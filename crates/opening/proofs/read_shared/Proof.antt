@@ -31,7 +31,7 @@ returns c =
     let fields-at = let c : tie.After-fields-at = search in c .fields-at .ensures in
     let v = lay (slotAt (stateIn (start .args .s .now)) (start .args .i)) in
     let f = fields v fields-at in
-    let full : readCapacity ≤ v .readcount = omega (arith, (c .if1 .taken)) in
+    let full : readCapacity ≤ v .readcount = omega (arith, c .if1 .taken) in
     refuses _ (shared-9 controller _ _ refl _ full)
 
 held-by-other-requires : tie.Need-held-by-other-requires
@@ -64,7 +64,7 @@ returns-3 c =
     let v = lay (slotAt (stateIn (start .args .s .now)) (start .args .i)) in
     let f = fields v fields-at in
     let room : v .readcount < readCapacity = omega (arith, if1) in
-    let newer : v .start < (start .args .x) .stamp = omega (arith, (c .if3 .taken)) in
+    let newer : v .start < (start .args .x) .stamp = omega (arith, c .if3 .taken) in
     refuses _ (shared-newer controller _ _ refl _ room _ (start .pre .1 .1) held-by-other if2 newer)
 
 joined-requires : tie.Need-joined-requires
@@ -79,9 +79,9 @@ store-read-requires c κs =
     let f = fields v fields-at in
     let room : v .readcount < readCapacity = omega (arith, if1) in
     let x = slotAt (stateIn (start .args .s .now)) (start .args .i) in
-    let next = (c .joined .ensures) in
+    let next = c .joined .ensures in
     let count = ap (λ (u : SlotRecord). u .readcount) next in
-    (((start .pre .0 .0), (start .pre .0 .1), omega arith, omega arith), joined-stands x v refl (start .pre .1 .0) _ room (joined-fields v fields-at _ room next) .kept)
+    ((start .pre .0 .0, start .pre .0 .1, omega arith, omega arith), joined-stands x v refl (start .pre .1 .0) _ room (joined-fields v fields-at _ room next) .kept)
 
 value-of-requires : tie.Need-value-of-requires
 value-of-requires c κs = search needs

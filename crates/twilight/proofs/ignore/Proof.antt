@@ -36,8 +36,8 @@ store-fields-requires c κs =
     let if1 = let c : tie.Else1 = search in c .if1 .left in
     let fields-at = let c : tie.After-fields-at = search in c .fields-at .ensures in
     let x = slotAt (stateIn (start .args .s .now)) (start .args .i) in
-    let p = (same phase-at if1) in
-    (((start .pre .0), (start .pre .1)), ignoring-stands x _ refl p (ignoring-fields _ fields-at p (c .ignoring-set .ensures)) .kept)
+    let p = same phase-at if1 in
+    (start .pre, ignoring-stands x _ refl p (ignoring-fields _ fields-at p (c .ignoring-set .ensures)) .kept)
 
 same-length-2 : tie.Need-same-length-2
 same-length-2 c = search needs
@@ -51,7 +51,7 @@ returns-2 c =
     let fields-at = let c : tie.After-fields-at = search in c .fields-at .ensures in
     let ignoring-set = let c : tie.After-ignoring-set = search in c .ignoring-set .ensures in
     let store-fields = let c : tie.After-store-fields = search in c .store-fields .ensures in
-    let p = (same phase-at if1) in
+    let p = same phase-at if1 in
     leaves _ (ignore-0 controller _ _ refl p some-marked if2 (ignoring-fields _ fields-at p ignoring-set)) store-fields
 
 same-length-3 : tie.Need-same-length-3

@@ -80,7 +80,7 @@ store-reads-clock-requires c κs =
     let S = stateIn (start .args .s .now) in
     let v = lay (slotAt S (start .args .i)) in
     let kept = reloaded-stands (slotAt S (start .args .i)) v refl (same phase-at if1) (reloaded S) reloaded-reads (reloaded-alone v fields-at reloaded′) .kept in
-    (((start .pre .0), (start .pre .1)), kept)
+    (start .pre, kept)
 
 same-length-4 : tie.Need-same-length-4
 same-length-4 c = search needs

@@ -57,7 +57,7 @@ cell-at-requires c κs =
     let start = let c : tie.After-count = search in let c : tie.Start = search in c in
     let count = let c : tie.After-count = search in c .count .ensures in
     let if2 = let c : tie.Else2 = search in c .if2 .left in
-    ((start .pre .0), rw (← count-read controller (start .args .s .now), ← count) if2)
+    (start .pre .0, rw (← count-read controller (start .args .s .now), ← count) if2)
 
 value-of-requires : tie.Need-value-of-requires
 value-of-requires c κs = search needs

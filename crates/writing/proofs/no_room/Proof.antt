@@ -27,7 +27,7 @@ returns c =
     let fields-at = let c : tie.After-fields-at = search in c .fields-at .ensures in
     let v = lay (slotAt (stateIn (start .args .s .now)) (start .args .i)) in
     let f = fields v fields-at in
-    let room : v .writecount < writeCapacity = omega (arith, (c .if1 .taken)) in
+    let room : v .writecount < writeCapacity = omega (arith, c .if1 .taken) in
     rw (lt-leb writeCapacity (v .writecount) room, and-false)
 
 find-write-requires : tie.Need-find-write-requires

@@ -65,7 +65,7 @@ cell-at-requires c κs =
     let start = let c : tie.Start = search in c in
     let count = let c : tie.After-count = search in c .count .ensures in
     let if2 = let c : tie.Else2 = search in c .if2 .left in
-    ((start .pre .0), rw (← count-read controller (start .args .s .now), ← count) if2)
+    (start .pre .0, rw (← count-read controller (start .args .s .now), ← count) if2)
 
 same-length-4 : tie.Need-same-length-4
 same-length-4 c = search needs
@@ -133,7 +133,7 @@ store-writes-requires c κs =
     let S = stateIn (start .args .s .now) in
     let v = lay (slotAt S (start .args .i)) in
     let kept = updated-stands (slotAt S (start .args .i)) v refl _ (written-alone v _ writes-at (c .written .ensures)) (same phase-at if1) .kept in
-    (((start .pre .0), (start .pre .1)), kept)
+    (start .pre, kept)
 
 same-length-6 : tie.Need-same-length-6
 same-length-6 c = search needs

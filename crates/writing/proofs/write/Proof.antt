@@ -65,7 +65,7 @@ cell-at-requires : tie.Need-cell-at-requires
 cell-at-requires c κs =
     let start = let c : tie.Start = search in c in
     let count = let c : tie.After-count = search in c .count .ensures in
-    ((start .pre .0), rw (← count-read controller _) (omega (arith, count)))
+    (start .pre .0, rw (← count-read controller _) (omega (arith, count)))
 
 same-length-4 : tie.Need-same-length-4
 same-length-4 c = search needs
@@ -125,7 +125,7 @@ store-writes-requires c κs =
     let writes-at = let c : tie.After-writes-at = search in c .writes-at .ensures in
     let v = lay (slotAt (stateIn (start .args .s .now)) (start .args .i)) in
     let x = slotAt (stateIn (start .args .s .now)) (start .args .i) in
-    (((start .pre .0), (start .pre .1)), written-stands x v refl _ (written-alone v _ writes-at (c .written .ensures)) (same phase-at if1) .kept)
+    (start .pre, written-stands x v refl _ (written-alone v _ writes-at (c .written .ensures)) (same phase-at if1) .kept)
 
 same-length-6 : tie.Need-same-length-6
 same-length-6 c = search needs
