@@ -27,9 +27,8 @@ get-requires c κs = search needs
 returns-2 : tie.Need-returns-2
 returns-2 c =
     let if1 = let c : tie.Else1 = search in c .if1 .left in
-    let get′ = let c : tie.After-get = search in c .get in
+    let get = let c : tie.After-get = search in c .get in
     let args = let c : tie.Start = search in c .args in
-    let get = get′ in
     pass _ _ _ (eq-eqb _ _ if1) (stop _ _ _ (lt-leb _ _ (rw (get .ensures) at (c .if2 .taken))) refl)
     ∙ cell-places (args .clock) (args .due) (args .at) (args .s .now)
 
