@@ -12,7 +12,7 @@ use Rattle.slot.specs.declared.WriteFound.{WriteFound}
 use Rattle.rules.specs.Cells.{heldByOther}
 use Rattle.rules.specs.declared.Cell.{Cell}
 use Rattle.area.specs.declared.Obstacle.{Obstacle}
-use Rattle.area.specs.InPlace.{cellStart, slotStart, wordIn, cellsIn, clockIn, cellIn, phaseIn, fieldsIn, writesIn, writeIn, readFoundIn, writeFoundIn, markedIn}
+use Rattle.area.specs.InPlace.{cellStart, slotStart, cellCountIn, clockNow, cellIn, phaseIn, fieldsIn, writesIn, writeIn, readFoundIn, writeFoundIn, markedIn}
 use Rattle.area.specs.Reload.{markedReads, reloadedReads, obstacleIn}
 
 pub cell-offset-unique : (c : ℕ) (r₁ r₂ : ℕ) → r₁ ≡ cellStart c → r₂ ≡ cellStart c → r₁ ≡ r₂
@@ -22,14 +22,11 @@ pub held-by-other-unique : (i : ℕ) (x : Cell) (r₁ r₂ : Bool) → r₁ ≡ 
 held-by-other-unique i x r₁ r₂ = unique
 
 module _ (l : List ℕ) where
-  pub count-unique : (r₁ r₂ : ℕ) → r₁ ≡ cellsIn l → r₂ ≡ cellsIn l → r₁ ≡ r₂
+  pub count-unique : (r₁ r₂ : ℕ) → r₁ ≡ cellCountIn l → r₂ ≡ cellCountIn l → r₁ ≡ r₂
   count-unique r₁ r₂ = unique
 
-  pub clock-unique : (r₁ r₂ : ℕ) → r₁ ≡ clockIn l → r₂ ≡ clockIn l → r₁ ≡ r₂
+  pub clock-unique : (r₁ r₂ : ℕ) → r₁ ≡ clockNow l → r₂ ≡ clockNow l → r₁ ≡ r₂
   clock-unique r₁ r₂ = unique
-
-  pub word-at-unique : (at : ℕ) (r₁ r₂ : ℕ) → r₁ ≡ wordIn l at → r₂ ≡ wordIn l at → r₁ ≡ r₂
-  word-at-unique at r₁ r₂ = unique
 
   pub cell-at-unique : (c : ℕ) (r₁ r₂ : Cell) → r₁ ≡ cellIn l c → r₂ ≡ cellIn l c → r₁ ≡ r₂
   cell-at-unique c r₁ r₂ = unique

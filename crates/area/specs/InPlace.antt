@@ -2,8 +2,7 @@
 use mathlib.Core.Bool.{Bool}
 use mathlib.Core.List.{List}
 use Prim.Native.Nat.{ℕ}
-use lib.ListN.{drop, getD}
-use Rattle.wire.specs.Field.{be}
+use lib.ListN.{getD}
 use Rattle.slot.specs.declared.ReadEntry.{ReadEntry}
 use Rattle.slot.specs.declared.ReadFound.{ReadFound}
 use Rattle.slot.specs.declared.SlotRecord.{SlotRecord}
@@ -19,22 +18,19 @@ use Rattle.rules.specs.Layout.{countIn, lay}
 use Rattle.rules.specs.declared.Cell.{Cell}
 use Rattle.area.specs.Good.{stateIn}
 
--- where a cell starts, and slot i behind the cells; the word at an offset
+-- where a cell starts, and slot i behind the cells
 abbrev pub cellStart : ℕ → ℕ
 cellStart c = cellOffset controller c
 
 abbrev pub slotStart : List ℕ → ℕ → ℕ
 slotStart l i = slotOffset controller (countIn l) i
 
-abbrev pub wordIn : List ℕ → ℕ → ℕ
-wordIn l at = be 4 (drop at l)
-
 -- the number of cells, the clock, a cell
-abbrev pub cellsIn : List ℕ → ℕ
-cellsIn l = cellCount (stateIn l)
+abbrev pub cellCountIn : List ℕ → ℕ
+cellCountIn l = cellCount (stateIn l)
 
-abbrev pub clockIn : List ℕ → ℕ
-clockIn l = stateIn l .clock
+abbrev pub clockNow : List ℕ → ℕ
+clockNow l = stateIn l .clock
 
 abbrev pub cellIn : List ℕ → ℕ → Cell
 cellIn l c = cellAt (stateIn l) c

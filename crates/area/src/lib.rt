@@ -10,9 +10,8 @@ ghost use Rattle.area.specs.Good.{Good, stateIn};
 ghost use Rattle.area.specs.InPlace.{
   cellStart,
   slotStart,
-  wordIn,
-  cellsIn,
-  clockIn,
+  cellCountIn,
+  clockNow,
   cellIn,
   phaseIn,
   fieldsIn,
@@ -50,7 +49,7 @@ pub const SLOTS: usize = 8;
 // The number of cells.
 pub fn count(s: &[u8]) -> u8
     requires { ⌜ Good (now s) ⌝ }
-    ensures { λ r. ⌜ r ≡ cellsIn (now (s .entry)) ⌝ }
+    ensures { λ r. ⌜ r ≡ cellCountIn (now (s .entry)) ⌝ }
 {
     s[COUNT]
 }
@@ -58,17 +57,9 @@ pub fn count(s: &[u8]) -> u8
 // The last stamp given.
 pub fn clock(s: &[u8]) -> u64
     requires { ⌜ Good (now s) ⌝ }
-    ensures { λ r. ⌜ r ≡ clockIn (now (s .entry)) ⌝ }
+    ensures { λ r. ⌜ r ≡ clockNow (now (s .entry)) ⌝ }
 {
     wire::get(s, CLOCK, STAMP)
-}
-
-// The word at `at`.
-pub fn word_at(s: &[u8], at: usize) -> u32
-    requires { ⌜ at + 4 ≤ length (now s) ⌝ }
-    ensures { λ r. ⌜ r ≡ wordIn (now (s .entry)) at ⌝ }
-{
-    wire::get(s, at, 4) as u32
 }
 
 // The cell whose bytes start at `at`.
@@ -79,7 +70,7 @@ fn cell_of(s: &[u8], at: usize) -> Cell
     Cell {
         kind: s[at],
         holder: s[at + 1],
-        word: word_at(s, at + 2),
+        word: wire::word_at(s, at + 2),
         stamp: wire::get(s, at + 6, STAMP),
     }
 }

@@ -2,7 +2,6 @@
 ghost use mathlib.Core.Path.{_≡_};
 ghost use Prim.Native.Nat.{_+_, _*_, _≤_};
 ghost use lib.ListN.{length, drop};
-ghost use Rattle.wire.specs.Field.{be};
 ghost use Rattle.slot.specs.Layout.{writeCapacity, readSize, writeSize, bit, startAt};
 ghost use Rattle.entries.specs.Entries.{readHere, writeHere, writeLogHere, readPut, writePut, firstPut};
 use slot::ReadEntry;
@@ -16,14 +15,6 @@ fn byte_of(flag: bool) -> u8
     if flag { 1 } else { 0 }
 }
 
-// The word at `at`.
-fn word_at(s: &[u8], at: usize) -> u32
-    requires { ⌜ at + 4 ≤ length (now s) ⌝ }
-    ensures { λ r. ⌜ r ≡ be 4 (drop at (now (s .entry))) ⌝ }
-{
-    wire::get(s, at, 4) as u32
-}
-
 // The read entry at `at`.
 pub fn read_of(s: &[u8], at: usize) -> ReadEntry
     requires { ⌜ at + readSize ≤ length (now s) ⌝ }
@@ -32,7 +23,7 @@ pub fn read_of(s: &[u8], at: usize) -> ReadEntry
     ReadEntry {
         cell: s[at],
         mark: s[at + 1] == 1,
-        word: word_at(s, at + 2),
+        word: wire::word_at(s, at + 2),
     }
 }
 
@@ -43,7 +34,7 @@ pub fn write_of(s: &[u8], at: usize) -> WriteEntry
 {
     WriteEntry {
         cell: s[at],
-        word: word_at(s, at + 1),
+        word: wire::word_at(s, at + 1),
     }
 }
 

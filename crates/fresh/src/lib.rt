@@ -49,7 +49,7 @@ fn described(ds: &[u8], k: usize) -> Cell
     Cell {
         kind: ds[at],
         holder: 0,
-        word: area::word_at(ds, at + 1),
+        word: wire::word_at(ds, at + 1),
         stamp: 0,
     }
 }

@@ -52,14 +52,6 @@ pub fn index(x: u8) -> usize
     x as usize
 }
 
-// The word at `at`.
-fn word_at(s: &[u8], at: usize) -> u32
-    requires { ⌜ at + 4 ≤ length (now s) ⌝ }
-    ensures { λ r. ⌜ r ≡ be 4 (drop at (now (s .entry))) ⌝ }
-{
-    wire::get(s, at, 4) as u32
-}
-
 // Whether the word at `at` is legal for the kind. It is read only where the kind asks for it, which joins the loads of its bytes.
 pub fn legal_at(kind: u8, s: &[u8], at: usize) -> bool
     requires { ⌜ at + 4 ≤ length (now s) ⌝ }
@@ -69,10 +61,10 @@ pub fn legal_at(kind: u8, s: &[u8], at: usize) -> bool
         return true;
     }
     if kind == 1 {
-        return value::legal(1, word_at(s, at));
+        return value::legal(1, wire::word_at(s, at));
     }
     if kind == 3 {
-        return value::legal(3, word_at(s, at));
+        return value::legal(3, wire::word_at(s, at));
     }
     false
 }

@@ -9,28 +9,28 @@ use Rattle.slot.specs.declared.WriteEntry.{WriteEntry}
 use Rattle.slot.specs.declared.ReadFound.{ReadFound}
 use Rattle.slot.specs.declared.WriteFound.{WriteFound}
 use Rattle.slot.specs.declared.SlotRecord.{SlotRecord}
-use Rattle.packed.specs.Places.{fieldsIn, withWritesIn, readEntryIn, writeEntryIn, readFoundIn, writeFoundIn, markedIn, slotCleared, fieldsPut, readEntryPut, readLogPut, writeLogPut}
+use Rattle.packed.specs.Places.{fieldsAt, withWritesAt, readEntryAt, writeEntryAt, readFoundAt, writeFoundAt, markedAt, slotCleared, fieldsPut, readEntryPut, readLogPut, writeLogPut}
 
 module _ (width at : ℕ) (s : List ℕ) where
-  pub fields-unique : (r₁ r₂ : SlotRecord) → r₁ ≡ fieldsIn width at s → r₂ ≡ fieldsIn width at s → r₁ ≡ r₂
+  pub fields-unique : (r₁ r₂ : SlotRecord) → r₁ ≡ fieldsAt width at s → r₂ ≡ fieldsAt width at s → r₁ ≡ r₂
   fields-unique r₁ r₂ = unique
 
-  pub with-writes-unique : (r₁ r₂ : SlotRecord) → r₁ ≡ withWritesIn width at s → r₂ ≡ withWritesIn width at s → r₁ ≡ r₂
+  pub with-writes-unique : (r₁ r₂ : SlotRecord) → r₁ ≡ withWritesAt width at s → r₂ ≡ withWritesAt width at s → r₁ ≡ r₂
   with-writes-unique r₁ r₂ = unique
 
-  pub read-at-unique : (k : ℕ) (r₁ r₂ : ReadEntry) → r₁ ≡ readEntryIn width at s k → r₂ ≡ readEntryIn width at s k → r₁ ≡ r₂
+  pub read-at-unique : (k : ℕ) (r₁ r₂ : ReadEntry) → r₁ ≡ readEntryAt width at s k → r₂ ≡ readEntryAt width at s k → r₁ ≡ r₂
   read-at-unique k r₁ r₂ = unique
 
-  pub write-at-unique : (k : ℕ) (r₁ r₂ : WriteEntry) → r₁ ≡ writeEntryIn width at s k → r₂ ≡ writeEntryIn width at s k → r₁ ≡ r₂
+  pub write-at-unique : (k : ℕ) (r₁ r₂ : WriteEntry) → r₁ ≡ writeEntryAt width at s k → r₂ ≡ writeEntryAt width at s k → r₁ ≡ r₂
   write-at-unique k r₁ r₂ = unique
 
-  pub find-read-unique : (cell : ℕ) (r₁ r₂ : ReadFound) → r₁ ≡ readFoundIn width at s cell → r₂ ≡ readFoundIn width at s cell → r₁ ≡ r₂
+  pub find-read-unique : (cell : ℕ) (r₁ r₂ : ReadFound) → r₁ ≡ readFoundAt width at s cell → r₂ ≡ readFoundAt width at s cell → r₁ ≡ r₂
   find-read-unique cell r₁ r₂ = unique
 
-  pub find-write-unique : (cell : ℕ) (r₁ r₂ : WriteFound) → r₁ ≡ writeFoundIn width at s cell → r₂ ≡ writeFoundIn width at s cell → r₁ ≡ r₂
+  pub find-write-unique : (cell : ℕ) (r₁ r₂ : WriteFound) → r₁ ≡ writeFoundAt width at s cell → r₂ ≡ writeFoundAt width at s cell → r₁ ≡ r₂
   find-write-unique cell r₁ r₂ = unique
 
-  pub some-marked-unique : (r₁ r₂ : Bool) → r₁ ≡ markedIn width at s → r₂ ≡ markedIn width at s → r₁ ≡ r₂
+  pub some-marked-unique : (r₁ r₂ : Bool) → r₁ ≡ markedAt width at s → r₂ ≡ markedAt width at s → r₁ ≡ r₂
   some-marked-unique r₁ r₂ = unique
 
   pub clear-unique : (r₁ r₂ : List ℕ) → r₁ ≡ slotCleared width at s → r₂ ≡ slotCleared width at s → r₁ ≡ r₂

@@ -19,27 +19,27 @@ module _ (width at : ℕ) (l : List ℕ) where
   slotIn = slotOf width (drop at l)
 
   -- its record with empty logs, or with its write log alone
-  abbrev pub fieldsIn : SlotRecord
-  fieldsIn = fieldsOf slotIn
+  abbrev pub fieldsAt : SlotRecord
+  fieldsAt = fieldsOf slotIn
 
-  abbrev pub withWritesIn : SlotRecord
-  withWritesIn = withoutReads slotIn
+  abbrev pub withWritesAt : SlotRecord
+  withWritesAt = withoutReads slotIn
 
   -- entry k of each log, and the entry of a cell
-  abbrev pub readEntryIn : ℕ → ReadEntry
-  readEntryIn k = getD (slotIn .reads) k noRead
+  abbrev pub readEntryAt : ℕ → ReadEntry
+  readEntryAt k = getD (slotIn .reads) k noRead
 
-  abbrev pub writeEntryIn : ℕ → WriteEntry
-  writeEntryIn k = getD (slotIn .writes) k noWrite
+  abbrev pub writeEntryAt : ℕ → WriteEntry
+  writeEntryAt k = getD (slotIn .writes) k noWrite
 
-  abbrev pub readFoundIn : ℕ → ReadFound
-  readFoundIn cell = readFound (readEntry (readLog slotIn) cell)
+  abbrev pub readFoundAt : ℕ → ReadFound
+  readFoundAt cell = readFound (readEntry (readLog slotIn) cell)
 
-  abbrev pub writeFoundIn : ℕ → WriteFound
-  writeFoundIn cell = writeFound (writeEntry (writeLog slotIn) cell)
+  abbrev pub writeFoundAt : ℕ → WriteFound
+  writeFoundAt cell = writeFound (writeEntry (writeLog slotIn) cell)
 
-  abbrev pub markedIn : Bool
-  markedIn = hasMark slotIn
+  abbrev pub markedAt : Bool
+  markedAt = hasMark slotIn
 
   -- cleared to zero throughout
   abbrev pub slotCleared : List ℕ

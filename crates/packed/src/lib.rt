@@ -4,13 +4,13 @@ ghost use Prim.Native.Nat.{_+_, _≤_, _<_};
 ghost use lib.ListN.{length};
 ghost use Rattle.slot.specs.Layout.{readCapacity, writeCapacity, slotSize};
 ghost use Rattle.packed.specs.Places.{
-  fieldsIn,
-  withWritesIn,
-  readEntryIn,
-  writeEntryIn,
-  readFoundIn,
-  writeFoundIn,
-  markedIn,
+  fieldsAt,
+  withWritesAt,
+  readEntryAt,
+  writeEntryAt,
+  readFoundAt,
+  writeFoundAt,
+  markedAt,
   slotCleared,
   fieldsPut,
   readEntryPut,
@@ -29,7 +29,7 @@ const READ_LOG: usize = ReadEntry::SIZE * SlotRecord::READS;
 // The slot at `at` with empty logs.
 pub fn fields(s: &[u8], at: usize, width: usize) -> SlotRecord
     requires { ⌜ (width ≤ 8) × (at + slotSize width ≤ length (now s)) ⌝ }
-    ensures { λ r. ⌜ r ≡ fieldsIn width at (now (s .entry)) ⌝ }
+    ensures { λ r. ⌜ r ≡ fieldsAt width at (now (s .entry)) ⌝ }
 {
     let mut v = SlotRecord::empty();
     v.phase = s[at];
@@ -45,7 +45,7 @@ pub fn fields(s: &[u8], at: usize, width: usize) -> SlotRecord
 // The slot at `at` with its write log alone.
 pub fn with_writes(s: &[u8], at: usize, width: usize) -> SlotRecord
     requires { ⌜ (width ≤ 8) × (at + slotSize width ≤ length (now s)) ⌝ }
-    ensures { λ r. ⌜ r ≡ withWritesIn width at (now (s .entry)) ⌝ }
+    ensures { λ r. ⌜ r ≡ withWritesAt width at (now (s .entry)) ⌝ }
 {
     let writes = entries::writes_of(s, at + 5 + 2 * width + READ_LOG);
     let mut v = fields(s, at, width);
@@ -56,7 +56,7 @@ pub fn with_writes(s: &[u8], at: usize, width: usize) -> SlotRecord
 // Read entry `k` of the slot at `at`.
 pub fn read_at(s: &[u8], at: usize, width: usize, k: usize) -> ReadEntry
     requires { ⌜ (width ≤ 8) × (at + slotSize width ≤ length (now s)) × (k < readCapacity) ⌝ }
-    ensures { λ r. ⌜ r ≡ readEntryIn width at (now (s .entry)) k ⌝ }
+    ensures { λ r. ⌜ r ≡ readEntryAt width at (now (s .entry)) k ⌝ }
 {
     entries::read_of(s, at + 5 + 2 * width + ReadEntry::SIZE * k)
 }
@@ -64,7 +64,7 @@ pub fn read_at(s: &[u8], at: usize, width: usize, k: usize) -> ReadEntry
 // Write entry `k` of the slot at `at`.
 pub fn write_at(s: &[u8], at: usize, width: usize, k: usize) -> WriteEntry
     requires { ⌜ (width ≤ 8) × (at + slotSize width ≤ length (now s)) × (k < writeCapacity) ⌝ }
-    ensures { λ r. ⌜ r ≡ writeEntryIn width at (now (s .entry)) k ⌝ }
+    ensures { λ r. ⌜ r ≡ writeEntryAt width at (now (s .entry)) k ⌝ }
 {
     entries::write_of(s, at + 5 + 2 * width + READ_LOG + WriteEntry::SIZE * k)
 }
@@ -72,7 +72,7 @@ pub fn write_at(s: &[u8], at: usize, width: usize, k: usize) -> WriteEntry
 // The read entry of a cell.
 pub fn find_read(s: &[u8], at: usize, width: usize, cell: u8) -> ReadFound
     requires { ⌜ (width ≤ 8) × (at + slotSize width ≤ length (now s)) ⌝ }
-    ensures { λ r. ⌜ r ≡ readFoundIn width at (now (s .entry)) cell ⌝ }
+    ensures { λ r. ⌜ r ≡ readFoundAt width at (now (s .entry)) cell ⌝ }
 {
     let count = s[at + 3] as usize;
     let mut i = 0;
@@ -89,7 +89,7 @@ pub fn find_read(s: &[u8], at: usize, width: usize, cell: u8) -> ReadFound
 // The write entry of a cell.
 pub fn find_write(s: &[u8], at: usize, width: usize, cell: u8) -> WriteFound
     requires { ⌜ (width ≤ 8) × (at + slotSize width ≤ length (now s)) ⌝ }
-    ensures { λ r. ⌜ r ≡ writeFoundIn width at (now (s .entry)) cell ⌝ }
+    ensures { λ r. ⌜ r ≡ writeFoundAt width at (now (s .entry)) cell ⌝ }
 {
     let count = s[at + 4] as usize;
     let mut i = 0;
@@ -106,7 +106,7 @@ pub fn find_write(s: &[u8], at: usize, width: usize, cell: u8) -> WriteFound
 // Whether an entry of the read log is marked.
 pub fn some_marked(s: &[u8], at: usize, width: usize) -> bool
     requires { ⌜ (width ≤ 8) × (at + slotSize width ≤ length (now s)) ⌝ }
-    ensures { λ r. ⌜ r ≡ markedIn width at (now (s .entry)) ⌝ }
+    ensures { λ r. ⌜ r ≡ markedAt width at (now (s .entry)) ⌝ }
 {
     let count = s[at + 3] as usize;
     let mut i = 0;

@@ -12,6 +12,9 @@ unique p q = p ∙ sym q
 pub get-unique : (s : List ℕ) (at width r₁ r₂ : ℕ) → r₁ ≡ fieldAt s at width → r₂ ≡ fieldAt s at width → r₁ ≡ r₂
 get-unique s at width r₁ r₂ = unique
 
+pub word-at-unique : (s : List ℕ) (at r₁ r₂ : ℕ) → r₁ ≡ fieldAt s at 4 → r₂ ≡ fieldAt s at 4 → r₁ ≡ r₂
+word-at-unique s at = get-unique s at 4
+
 pub put-unique : (s : List ℕ) (at width number : ℕ) (s₁ s₂ : List ℕ)
     → s₁ ≡ fieldPut s at width number → s₂ ≡ fieldPut s at width number → s₁ ≡ s₂
 put-unique s at width number s₁ s₂ = unique

@@ -19,6 +19,14 @@ pub fn get(s: &[u8], at: usize, width: usize) -> u64
     n
 }
 
+// The word at `at`.
+pub fn word_at(s: &[u8], at: usize) -> u32
+    requires { ⌜ at + 4 ≤ length (now s) ⌝ }
+    ensures { λ r. ⌜ r ≡ fieldAt (now (s .entry)) at 4 ⌝ }
+{
+    get(s, at, 4) as u32
+}
+
 // Puts the lowest `width` bytes of `number` at `at`.
 pub fn put(s: &mut [u8], at: usize, width: usize, number: u64)
     requires { ⌜ at + width ≤ length (now s) ⌝ }

@@ -2,9 +2,9 @@
 use native.Mathlib.Omega.{arith}
 use borrow.Author.Needs.{needs}
 use lib.ListN.{drop}
 use Rattle.wire.proofs.Laws.Field.{be-bound, bytes-drop}
-use Rattle.entries.proofs.word_at.Statement.{statement}
-use Rattle.entries.proofs.word_at.Tie as tie
+use Rattle.wire.proofs.word_at.Statement.{statement}
+use Rattle.wire.proofs.word_at.Tie as tie
 
 get-requires : tie.Need-get-requires
 get-requires c κs = search needs
