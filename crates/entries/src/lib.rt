@@ -1,7 +1,7 @@
 // The entries of a slot's logs and its fields of one byte, each at a place of its own.
 ghost use mathlib.Core.Path.{_≡_};
 ghost use Prim.Native.Nat.{_+_, _*_, _≤_};
-ghost use lib.ListN.{length, drop};
+ghost use lib.ListN.{length};
 ghost use Rattle.slot.specs.Layout.{writeCapacity, readSize, writeSize, bit, startAt};
 ghost use Rattle.entries.specs.Entries.{readHere, writeHere, writeLogHere, readPut, writePut, firstPut};
 use slot::ReadEntry;
