@@ -33,7 +33,7 @@ padded-each P d l n none each i h = by-place (ltb i (length l)) refl
     by-place true e = rw (List·getD-append l (replicate (n - length l) d) d i (ltb-true _ _ e)) (each i (ltb-true _ _ e))
     by-place false e = rw (padded-zero d l n i (ltb-false _ _ e) h) none
 
--- what "logs right" gives
+-- what `logsRight` gives
 pub record LogsHold (cells : List Cell) (clock start : ℕ) (reads : List ReadEntry) (writes : List WriteEntry) : Type 0 where
   pub readsFew : length reads ≤ readCapacity
   pub writesFew : length writes ≤ writeCapacity

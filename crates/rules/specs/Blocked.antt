@@ -49,7 +49,7 @@ unfoldable pub ofTheTwo : List ℕ → Bool
 ofTheTwo slots = all (λ s. eqb s 1 or eqb s 2) slots
 
 pub record Blocked : Type 0 where
-  -- It is reached from a fresh area.
+  -- It is reached from a fresh state.
   pub reached : endState controller two crossing ≡ blocked
   -- Any list of reloads of the two, in any order: each gets 11, and nothing changes.
   pub endless : (slots : List ℕ) → ofTheTwo slots ≡ true → replies controller blocked (map reloadOf slots) ≡ replicate (length slots) (refusedWith 11)
