@@ -13,6 +13,8 @@
 SHEET ?= examples/sheets/s.txt
 CALLS ?= 2000000
 SEED ?= 1
+# when this make began, so that the gate can say how long it took
+BEGAN := $(shell date +%s)
 LIBRARY := target/staticlib/libcrocktendril.a
 # The crates that the library is made of, and their files. Folders count as files: one that lost a file is newer.
 LIBRARY_CRATES := crocktendril $(shell sed -n 's/^crocktendril: //p' crates.txt)
@@ -40,7 +42,7 @@ test:
 	@echo "== the second program: its tests"
 	cd oracle && cargo test --release --offline --quiet
 	@echo "== proofs, must-fail edits, the library and what is linked with it (ten to twenty minutes)"
-	@tools/gate
+	@BEGAN=$(BEGAN) tools/gate
 
 lib:
 	rt staticlib crocktendril
