@@ -1,16 +1,16 @@
 -- None of the wrong cores meets the contract of `crocktendril_step`: each answers or leaves something else at a short history from a fresh area.
-use mathlib.Core.Bool.{Bool, true, false, not}
+use mathlib.Core.Bool.{Bool, true, false}
 use mathlib.Core.List.{List, [], _∷_}
 use mathlib.Core.Logic.{_⊎_, inl, inr, ⊎-elim}
 use mathlib.Core.Path.{_≡_, refl, sym, _∙_, ap, ap₂, subst}
 use Prim.Native.Nat.{ℕ, suc, pred, _*_, _/_, _^_, _<_, _≤_}
 use native.Mathlib.Omega.{arith}
-use lib.Dec.{eqb, ltb, leb, lit<, leb→le}
+use lib.Dec.{eqb, ltb, lit<, leb→le}
 use lib.ListN.{length, getD}
 use lib.Seq.{getD-set-same}
-use borrow.Author.Tests.{leb-true, ltb-true, not-false}
+use borrow.Author.Tests.{ltb-true}
 use Rattle.call.specs.declared.Reply.{Reply}
-use Rattle.call.specs.declared.Reply.the-variants.{NoSuchSlot, NotAllowed, ReloadHeld, LastStamp}
+use Rattle.call.specs.declared.Reply.the-variants.{NotAllowed, ReloadHeld, LastStamp}
 use Rattle.call.specs.Decode.{decoded}
 use Rattle.call.specs.Answer.{replyCode, replyNumber}
 use Rattle.slot.specs.declared.WriteEntry.{WriteEntry}
@@ -36,6 +36,7 @@ use Rattle.rules.proofs.RoundTrip.{pack-right, pack-state, state-back, state-ri
 use Rattle.rules.proofs.StateSized.{logs-hold}
 use Rattle.history.specs.Slips.{slip}
 use Rattle.history.proofs.Cases.{Refusal, refuse-case, found-case, locking-case, twilight-case, publishing-case}
+use Rattle.history.proofs.StepCase.{slots-case}
 use Rattle.history.proofs.Keeps.{keeps}
 use Rattle.history.proofs.Right.{right-of}
 use Rattle.crocktendril.proofs.Demands.{demand2}
@@ -203,15 +204,9 @@ module _ (S : State) (right : stateRight controller S ≡ true) (slot : ℕ) whe
   abbrev Published : Outcome → Type 0
   Published o = replyCode (replyOf o) ≡ 0 → cellAt (after S o) (nextToPublish (slotAt S i)) .stamp ≡ commitOf (slotAt S i)
 
-  module _ (P : Outcome → Type 0) (refusal : (r : Reply) → Refusal r → P (refused r)) where
-    inside : (o : Outcome) → (i < length (S .slots) → P o) → P (insideSlots controller slot o)
-    inside o f =
-        refuse-case P refusal (not (leb 1 slot and leb slot (controller .slots))) NoSuchSlot (tt, tt) o
-        (λ e.
-        let both : (leb 1 slot and leb slot (controller .slots)) ≡ true = not-false _ e in
-        let count = right-of controller S right .slot-count in
-        let there : pred slot < length (S .slots) = omega (arith, leb-true 1 slot (and-left _ _ both), leb-true slot (controller .slots) (and-right _ _ both)) in
-        f there)
+  inside : (P : Outcome → Type 0) → ((r : Reply) → Refusal r → P (refused r)) → (o : Outcome) → (i < length (S .slots) → P o)
+      → P (insideSlots controller slot o)
+  inside P refusal o f = slots-case controller S P refusal slot o (λ there. f (rw (right-of controller S right .slot-count) there))
 
   takes : i < length (S .slots) → (r : Reply) (x : Slot) → commitOf x ≡ suc (S .clock)
       → Took (belowLastStamp controller S (accepted r (turn S i (suc (S .clock)) (S .cells) x)))
