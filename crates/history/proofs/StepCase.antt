@@ -29,7 +29,7 @@ module _ (M : Model) (S : State) (P : Outcome → Type 0) (refusal : (r : Reply)
       by (refused r) k = refusal r k
       by (accepted r T) m = f r T m
 
-  slots-case : (slot : ℕ) (o : Outcome) → (pred slot < M .slots → P o) → P (insideSlots M slot o)
+  pub slots-case : (slot : ℕ) (o : Outcome) → (pred slot < M .slots → P o) → P (insideSlots M slot o)
   slots-case slot o f =
       refuse-case P refusal (not (leb 1 slot and leb slot (M .slots))) NoSuchSlot (tt, tt) o
       (λ e.

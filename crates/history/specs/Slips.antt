@@ -1,4 +1,5 @@
--- The slips that look right, and one wrong core, as steps that differ from document 01's in a row or two, and for each a history that shows it.
+-- The slips that look right, and half of a wrong core, as steps that differ from document 01's in a row or two, and for each a history that shows it. The wrong cores, whole,
+-- are in `tested/specs/WrongCores.antt`.
 use mathlib.Core.Bool.{false, not, cond}
 use mathlib.Core.List.{List, [], _∷_, _++_, map}
 use Prim.Native.Nat.{ℕ, suc, pred}
@@ -124,7 +125,7 @@ readUnpublished =
     ∷ call 2 2 1 0 0
     ∷ []
 
--- A core that only pretends to publish: the cell is freed with the word that it has.
+-- The half of a wrong core that only pretends to publish (its finish writes nothing): the cell is freed with the word that it has.
 unfoldable pub publishPretends : State → Call → Outcome
 publishPretends S a =
     let i = pred (a .slot) in

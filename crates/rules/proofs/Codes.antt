@@ -1,10 +1,10 @@
 -- The lowest code that applies is given: for each step its row and the table ask the same tests in the same order.
 use mathlib.Core.Bool.{Bool, true, false, not, cond}
-use mathlib.Core.List.{List}
-use mathlib.Core.Path.{_≡_, refl, _∙_, ap}
+use mathlib.Core.List.{List, [], _∷_}
+use mathlib.Core.Path.{_≡_, refl, sym, _∙_, ap}
 use Prim.Native.Nat.{ℕ, zero, suc, pred, _<_}
 use native.Mathlib.Omega.{arith}
-use borrow.Author.Tests.{leb-true, leb-false, le-ltb, lt-ltb, le-leb, lt-leb}
+use borrow.Author.Tests.{leb-true, leb-false, ltb-true, le-ltb, lt-ltb, le-leb, lt-leb}
 use lib.Dec.{eqb, ltb, leb}
 use lib.ListN.{length, getD}
 use Rattle.value.specs.Legal.{legalWord}
@@ -19,6 +19,7 @@ use Rattle.slot.specs.declared.WriteEntry.{WriteEntry}
 use Rattle.slot.specs.Layout.{readCapacity, writeCapacity, noWrite}
 use Rattle.slot.specs.Logic.{_and_, _or_, any, first, pairwise, all}
 use Rattle.slot.specs.Logs.{readEntry, writeEntry, readsCell, writesCell, someMarked}
+use Rattle.slot.proofs.Logic.{and-left, and-right}
 use Rattle.slot.proofs.Search.{of-none, of-some}
 use Rattle.rules.specs.Model.{Model, lastStamp}
 use Rattle.rules.specs.State.{State, cellCount, cellAt, slotAt}
@@ -30,10 +31,10 @@ use Rattle.rules.specs.Layout.{stateOf}
 use Rattle.rules.specs.AreaRight.{wellFormed}
 use Rattle.rules.specs.Area.{answered, stepOnBytes}
 use Rattle.rules.specs.Run.{call}
-use Rattle.rules.specs.Allowed.{allowed}
+use Rattle.rules.specs.Allowed.{Row, _when_, rowNumber, allowed}
 use Rattle.rules.proofs.Cases.{cond-case, found-case, log-case, idle-case, open-case, locking-case, twilight-case, publishing-case, uncommitted-case}
-use Rattle.rules.specs.Codes.{stepOutside, slotOutside, notAllowed, cellOutside, valueIllegal, kindDiffers, notInLog, logFull, readConflicts, cellHeld, stampsSpent, outcomeCode, Ending, refusal, outcome, endingCode, firstOf, tableEnding}
-use Rattle.rules.specs.LowestCode.{ending, LowestCode}
+use Rattle.rules.specs.Codes.{codeTable, stepOutside, slotOutside, notAllowed, cellOutside, valueIllegal, kindDiffers, notInLog, logFull, readConflicts, cellHeld, stampsSpent, outcomeCode, Ending, refusal, outcome, endingCode, firstOf, tableEnding}
+use Rattle.rules.specs.LowestCode.{ending, lowerApplies, LowestCode}
 
 -- opens the table and the way from a call to its row
 unfoldable table : ℕ
@@ -277,12 +278,31 @@ on-bytes : (M : Model) (bytes : List ℕ) (right : Bool) (o : Outcome) (e : Endi
 on-bytes M bytes true o e f = answer-code M bytes o ∙ ap endingCode f
 on-bytes M bytes false o e f = refl
 
+-- rows above a code have no lower one that applies, and in rows that ascend by code those after the first that applies are above it
+none-lower : (k : ℕ) (rows : List Row) → all (λ (q : Row). ltb k (rowNumber q)) rows ≡ true → any (lowerApplies k) rows ≡ false
+unfolding any all _and_ _or_
+none-lower k [] p = refl
+none-lower k (code when true ∷ rows) p =
+    let above : k < code = ltb-true k code (and-left (ltb k code) _ p) in
+    rw (le-ltb code k (omega arith)) (none-lower k rows (and-right (ltb k code) _ p))
+none-lower k (code when false ∷ rows) p = none-lower k rows (and-right (ltb k code) _ p)
+
+first-lowest : (rows : List Row) (n k : ℕ) → pairwise (λ (r q : Row). ltb (rowNumber r) (rowNumber q)) rows ≡ true
+    → firstOf rows (outcome n) ≡ refusal k → any (lowerApplies k) rows ≡ false
+unfolding firstOf any pairwise _and_ _or_
+first-lowest [] n k p e = refl
+first-lowest (code when true ∷ rows) n k p e =
+    let same : code ≡ k = ap endingCode e in
+    rw (le-ltb code k (omega arith), ← same) (none-lower code rows (and-left (all (λ (q : Row). ltb code (rowNumber q)) rows) _ p))
+first-lowest (code when false ∷ rows) n k p e = first-lowest rows n k (and-right (all (λ (q : Row). ltb code (rowNumber q)) rows) _ p) e
+
 pub lowest-code : (M : Model) → LowestCode M
-unfolding stepOnBytes pairwise all _and_
+unfolding stepOnBytes tableEnding pairwise all _and_
 lowest-code M =
     let given : (S : State) (a : Call) → Ends (tableEnding M S a) (step M S a) = λ S a. numbered M S (a .slot) (a .cell) (a .kind) (a .word) (a .step) in
     record {
       given = given;
       onBytes = λ bytes a. on-bytes M bytes (wellFormed M bytes) (step M (stateOf M bytes) a) _ (given (stateOf M bytes) a);
+      lowest = λ S a k e. first-lowest (codeTable M S a) _ k refl (sym (given S a) ∙ e);
       ascending = λ S a. refl;
     }

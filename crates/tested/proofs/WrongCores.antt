@@ -1,39 +1,53 @@
 -- None of the wrong cores meets the contract of `crocktendril_step`: each answers or leaves something else at a short history from a fresh area.
 use mathlib.Core.Bool.{Bool, true, false}
 use mathlib.Core.List.{List, [], _∷_}
-use mathlib.Core.Path.{_≡_, refl, sym, _∙_, ap, ap₂}
-use Prim.Native.Nat.{ℕ, suc, pred, _*_, _/_, _-_, _^_, _<_, _≤_}
+use mathlib.Core.Logic.{_⊎_, inl, inr, ⊎-elim}
+use mathlib.Core.Path.{_≡_, refl, sym, _∙_, ap, ap₂, subst}
+use Prim.Native.Nat.{ℕ, suc, pred, _*_, _/_, _^_, _<_, _≤_}
 use native.Mathlib.Omega.{arith}
-use lib.Dec.{eqb, lit<}
-use borrow.Author.Tests.{ne-eqb, eqb-true}
+use lib.Dec.{eqb, ltb, lit<, leb→le}
+use lib.ListN.{length, getD}
+use lib.Seq.{getD-set-same}
+use borrow.Author.Tests.{ltb-true}
+use Rattle.call.specs.declared.Reply.{Reply}
+use Rattle.call.specs.declared.Reply.the-variants.{NotAllowed, ReloadHeld, LastStamp}
 use Rattle.call.specs.Decode.{decoded}
-use Rattle.call.specs.Answer.{replyNumber}
+use Rattle.call.specs.Answer.{replyCode, replyNumber}
+use Rattle.slot.specs.declared.WriteEntry.{WriteEntry}
+use Rattle.slot.specs.Layout.{noWrite}
 use Rattle.slot.specs.Logic.{_and_, all}
-use Rattle.rules.specs.Model.{controller}
-use Rattle.rules.specs.State.{State, cellAt, slotAt, writesOf}
-use Rattle.rules.specs.StateRight.{stateRight}
-use Rattle.rules.specs.Outcome.{Outcome, refused, accepted, replyOf, after}
-use Rattle.rules.specs.Steps.{enter, reload}
+use Rattle.slot.proofs.Logic.{and-left, and-right, all-at}
+use Rattle.rules.specs.declared.Cell.{Cell}
+use Rattle.rules.specs.Model.{controller, lastStamp}
+use Rattle.rules.specs.State.{State, Slot, idle, publishing, noCell, cellAt, slotAt, writesOf, commitOf, turn}
+use Rattle.rules.specs.Cells.{obstacle}
+use Rattle.rules.specs.LogsRight.{loggedRight, writesRight}
+use Rattle.rules.specs.StateRight.{slotRight, stateRight}
+use Rattle.rules.specs.Outcome.{Outcome, refused, accepted, replyOf, after, belowLastStamp}
+use Rattle.rules.specs.Steps.{enter, reload, publish}
 use Rattle.rules.specs.Step.{Call, insideSlots, stepOf, step}
-use Rattle.rules.specs.Layout.{lay, pack, stateOf, clockIn}
+use Rattle.rules.specs.Layout.{lay, pack, stateOf}
 use Rattle.rules.specs.Area.{answered, stepOnBytes}
 use Rattle.rules.specs.Run.{call, endState}
 use Rattle.rules.specs.Edges.{two, alone}
 use Rattle.rules.proofs.Open.{computed}
 use Rattle.rules.proofs.Controller.{controller-fits}
-use Rattle.rules.proofs.Places.{clock-held}
-use Rattle.rules.proofs.RoundTrip.{pack-right, state-back, round-trip}
+use Rattle.rules.proofs.RoundTrip.{pack-right, pack-state, state-back, state-right, round-trip}
+use Rattle.rules.proofs.StateSized.{logs-hold}
+use Rattle.history.specs.Slips.{slip}
+use Rattle.history.proofs.Cases.{Refusal, refuse-case, found-case, locking-case, twilight-case, publishing-case}
+use Rattle.history.proofs.StepCase.{slots-case}
 use Rattle.history.proofs.Keeps.{keeps}
-use Rattle.history.proofs.Keeps.Lists.{cond-elim}
+use Rattle.history.proofs.Right.{right-of}
 use Rattle.crocktendril.proofs.Demands.{demand2}
-use Rattle.tested.specs.Core.{Core, Asked, Meets, coreOf, withRow}
-use Rattle.tested.specs.WrongCores.{AlwaysRefuses, AlwaysRepliesTheSame, ChangesNothing, allHaveWords, WritesAtFinish, PretendsToPublish, allWritten, finishWrites, writesAndPretends, enterInvents, reloadInvents, inventsStamps, ShutOut}
-use Rattle.tested.proofs.Formed.{judged, twoAt, two-right, end-right}
+use Rattle.tested.specs.Core.{Core, Askable, Meets, coreOf, withRow}
+use Rattle.tested.specs.WrongCores.{AlwaysRefuses, AlwaysRepliesTheSame, ChangesNothing, allHaveWords, WritesAtFinish, PretendsToPublish, allWritten, finishWrites, writesAndPretends, nextToPublish, StampsRight, InventsStamps, ShutOut}
+use Rattle.tested.proofs.Formed.{judged, two-right, end-right}
 
 -- a case that C can put to a core: the area of a well-formed state, and a call
 record Case (S : State) (call : Call) : Type 0 where
   right : stateRight controller S ≡ true
-  asked : Asked (pack controller S) call
+  asked : Askable (pack controller S) call
 
 -- a step with a slot alone
 put : (S : State) → stateRight controller S ≡ true → (step slot : ℕ) → step < 256 → slot < 256 → Case S (alone step slot)
@@ -151,57 +165,110 @@ pretending-to-publish core pretends meets =
     omega arith
 
 written-right : stateRight controller (after toFinish (writesAndPretends toFinish (alone 12 1))) ≡ true
-unfolding judged toFinish upToFinish withRow finishWrites allWritten
+unfolding judged toFinish upToFinish withRow slip finishWrites allWritten
 written-right = refl
 
 writing-and-pretending : Meets (coreOf writesAndPretends) → ⊥
-unfolding computed toFinish upToFinish toPublish withRow finishWrites allWritten
+unfolding computed toFinish upToFinish toPublish withRow slip finishWrites allWritten
 writing-and-pretending meets =
     let words : _≡_ {A = ℕ} 9 5 =
     ap (λ (S : State). cellAt S 0 .word)
     (sym (state-back controller controller-fits _ written-right) ∙ ap (stateOf controller) (same-area finishes writesAndPretends meets) ∙ back publishes) in
     omega arith
 
--- slot 1 enters with empty logs, at any clock
-upToClose : List Call
-upToClose = alone 1 1 ∷ alone 4 1 ∷ []
+-- what C can ask of an area is a case of its state
+of-area : {l : List ℕ} {call : Call} → Askable l call → Case (stateOf controller l) call
+of-area {l} {call} asked =
+    record {
+      right = state-right controller l (asked .bytes) (asked .formed);
+      asked = subst (λ (m : List ℕ). Askable m call) (sym (pack-state controller l (asked .bytes) (asked .formed))) asked;
+    }
 
-module _ (clock : ℕ) (below : clock < 2 ^ 64 - 1) where
-  toEnter : State
-  toEnter = endState controller (twoAt clock) upToClose
+-- no refusal has code 0
+no-code : (r : Reply) → replyNumber r / 2 ^ 40 ≡ 0 → replyCode r ≡ 0
+unfolding replyNumber
+no-code r e = omega arith
 
-  enters : Case toEnter (alone 6 1)
-  unfolding toEnter
-  enters = put toEnter (end-right (twoAt clock) upToClose (two-right clock (omega arith))) 6 1 (lit< tt) (lit< tt)
+not-refused : {P : Type 0} (r : Reply) → Refusal r → replyCode r ≡ 0 → P
+not-refused r k e = absurd (omega (arith, leb→le 2 (replyCode r) (k .0)))
 
-  right-clock : after toEnter (step controller toEnter (alone 6 1)) .clock ≡ suc clock
-  unfolding computed toEnter upToClose
-  right-clock = rw (ne-eqb clock (2 ^ 64 - 1) (λ e. omega arith))
+-- a step that is accepted gives the right stamps: its row's tests are passed one by one
+module _ (S : State) (right : stateRight controller S ≡ true) (slot : ℕ) where
+  abbrev i : ℕ
+  i = pred slot
 
-  module _ (stamp : ℕ → ℕ) where
-    wrong-clock : after toEnter (inventsStamps stamp toEnter (alone 6 1)) .clock ≡ stamp clock
-    unfolding computed toEnter upToClose withRow enterInvents
-    wrong-clock = rw (ne-eqb clock (2 ^ 64 - 1) (λ e. omega arith))
+  -- it took clock + 1; it published
+  abbrev Took : Outcome → Type 0
+  Took o = replyCode (replyOf o) ≡ 0 → (after S o .clock ≡ suc (S .clock)) × (commitOf (slotAt (after S o) i) ≡ suc (S .clock))
 
-    same-stamp : stamp clock < 2 ^ 64 → Meets (coreOf (inventsStamps stamp)) → stamp clock ≡ suc clock
-    same-stamp fits meets =
-        sym wrong-clock
-        ∙ sym (clock-held controller _ (rw wrong-clock fits))
-        ∙ ap (clockIn controller) (same-area enters (inventsStamps stamp) meets)
-        ∙ clock-held controller _ (rw right-clock (omega arith))
-        ∙ right-clock
+  abbrev Published : Outcome → Type 0
+  Published o = replyCode (replyOf o) ≡ 0 → cellAt (after S o) (nextToPublish (slotAt S i)) .stamp ≡ commitOf (slotAt S i)
 
--- another row that says what the rules' row says changes nothing
-same-row : (number : ℕ) (row : State → ℕ → Outcome) (next : State → Call → Outcome) (S : State) (a : Call)
-    → (a .step ≡ number → insideSlots controller (a .slot) (row S (pred (a .slot))) ≡ step controller S a) → next S a ≡ step controller S a
-    → withRow number row next S a ≡ step controller S a
-unfolding withRow
-same-row number row next S a here other =
-    cond-elim (λ (o : Outcome). o ≡ step controller S a) (eqb (a .step) number) _ _ (λ e. here (eqb-true _ _ e)) (λ e. other)
+  inside : (P : Outcome → Type 0) → ((r : Reply) → Refusal r → P (refused r)) → (o : Outcome) → (i < length (S .slots) → P o)
+      → P (insideSlots controller slot o)
+  inside P refusal o f = slots-case controller S P refusal slot o (λ there. f (rw (right-of controller S right .slot-count) there))
 
-right-step : (S : State) (a : Call) → inventsStamps suc S a ≡ step controller S a
-unfolding step stepOf decoded _and_ enter reload enterInvents reloadInvents
-right-step S a = same-row 6 (enterInvents suc) _ S a (λ e. rw e) (same-row 10 (reloadInvents suc) (step controller) S a (λ e. rw e) refl)
+  takes : i < length (S .slots) → (r : Reply) (x : Slot) → commitOf x ≡ suc (S .clock)
+      → Took (belowLastStamp controller S (accepted r (turn S i (suc (S .clock)) (S .cells) x)))
+  takes there r x same =
+      refuse-case Took not-refused (eqb (S .clock) (lastStamp controller)) LastStamp (tt, tt) _ λ below e.
+      (refl, ap commitOf (getD-set-same (S .slots) i x idle there) ∙ same)
+
+  entered : Took (insideSlots controller slot (enter controller S i))
+  unfolding enter
+  entered =
+      inside Took not-refused _ λ there.
+      locking-case Took not-refused (slotAt S i) _ λ taken start reads writes x.
+      refuse-case Took not-refused (ltb taken (length writes)) NotAllowed (tt, tt) _ λ whole.
+      takes there _ _ refl
+
+  reloads : Took (insideSlots controller slot (reload controller S i))
+  unfolding reload
+  reloads =
+      inside Took not-refused _ λ there.
+      twilight-case Took not-refused (slotAt S i) _ λ ignoring start commit reads writes x.
+      found-case Took not-refused (obstacle S i reads) _ _ (λ e held. not-refused (ReloadHeld (e .cell) (cellAt S (e .cell) .holder)) (tt, tt)) λ clear.
+      takes there _ _ refl
+
+  published : Published (insideSlots controller slot (publish controller S i))
+  unfolding publish slotRight writesRight loggedRight
+  published =
+      inside Published not-refused _ λ there.
+      publishing-case Published not-refused (slotAt S i) _ λ ignoring taken start commit reads writes x e.
+      let held : slotRight (S .cells) (S .clock) (publishing ignoring taken start commit reads writes) ≡ true =
+      subst (λ (y : Slot). slotRight (S .cells) (S .clock) y ≡ true) x (right-of controller S right .slot i) in
+      let logs = logs-hold (S .cells) (S .clock) start reads writes (and-left _ _ held) in
+      let entry =
+      all-at (λ (f : WriteEntry). loggedRight (S .cells) (f .cell) (f .word)) writes noWrite (and-left _ _ (logs .writesHold)) taken
+      (ltb-true _ _ (and-left _ _ (and-right _ _ held))) in
+      rw x (ap (λ (y : Cell). y .stamp) (getD-set-same (S .cells) (getD writes taken noWrite .cell) _ noCell (ltb-true _ _ (and-left _ _ entry))))
+
+stamps-right : (S : State) → stateRight controller S ≡ true → (call : Call) → replyCode (replyOf (step controller S call)) ≡ 0
+    → StampsRight S call (after S (step controller S call))
+unfolding step stepOf decoded _and_
+stamps-right S right call code =
+    let slot = call .slot in
+    let i = pred slot in
+    let by-6 : call .step ≡ 6 → step controller S call ≡ insideSlots controller slot (enter controller S i) = λ e. rw e in
+    let by-10 : call .step ≡ 10 → step controller S call ≡ insideSlots controller slot (reload controller S i) = λ e. rw e in
+    let by-13 : call .step ≡ 13 → step controller S call ≡ insideSlots controller slot (publish controller S i) = λ e. rw e in
+    record {
+      taken = ⊎-elim
+          (λ e. subst (Took S right slot) (sym (by-6 e)) (entered S right slot) code)
+          (λ e. subst (Took S right slot) (sym (by-10 e)) (reloads S right slot) code);
+      published = λ e. subst (Published S right slot) (sym (by-13 e)) (published S right slot) code;
+    }
+
+inventing-stamps : (core : Core) → InventsStamps core → Meets core → ⊥
+inventing-stamps core x meets =
+    let here = of-area (x .asked) in
+    let l = x .area in
+    let S = stateOf controller l in
+    let packed = pack-state controller l (x .asked .bytes) (x .asked .formed) in
+    let code = no-code _ (subst (λ (r : ℕ). r / 2 ^ 40 ≡ 0) (exactly here core meets .0) (subst (λ (m : List ℕ). core m (x .call) .answer / 2 ^ 40 ≡ 0) (sym packed) (x .accepted))) in
+    x .wrong
+    (subst (λ (m : List ℕ). StampsRight S (x .call) (stateOf controller (core m (x .call) .left))) packed
+    (subst (StampsRight S (x .call)) (sym (leaves here core meets)) (stamps-right S (here .right) (x .call) code)))
 
 pub shut-out : ShutOut
 unfolding coreOf stepOnBytes
@@ -213,7 +280,6 @@ shut-out =
       writingAtFinish = writing-at-finish;
       pretendingToPublish = pretending-to-publish;
       writingAndPretending = writing-and-pretending;
-      inventingStamps = λ stamp clock below fits wrong meets. wrong (same-stamp clock below stamp fits meets);
-      rightStamps = λ l call a. rw (right-step (stateOf controller l) call) (record { answer = refl; bytes = refl });
+      inventingStamps = inventing-stamps;
       rightStep = λ l call a. record { answer = refl; bytes = refl };
     }
