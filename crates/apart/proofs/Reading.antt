@@ -11,7 +11,7 @@ use Rattle.slot.proofs.Entry.{first-byte}
 use Rattle.rules.specs.State.{noCell}
 use Rattle.rules.specs.Area.{describedCount, describedCell, describedCells}
 use Rattle.fresh.specs.Parts.{legalCell}
-use Rattle.fresh.proofs.Parts.{described-at}
+use Rattle.rules.proofs.LaidOut.{described-at}
 
 module _ (l : List ℕ) where
   -- two bytes, in the list or past its end

@@ -1,6 +1,5 @@
 pub mod Good
 pub mod SlotRead
-pub mod Scan
 pub mod Fill
 pub mod Logged
 pub mod Unique

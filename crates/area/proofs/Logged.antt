@@ -1,4 +1,4 @@
--- The read log of a slot of a good area: it has at most 16 entries, each of a cell of the area, since the slot's logs are right.
+-- The read log of a slot of a good area: it fits its array and each entry is of a cell of the area, since the slot's logs are right.
 use mathlib.Core.Bool.{true}
 use mathlib.Core.List.{List}
 use mathlib.Core.Path.{_≡_, refl, ap, _∙_}
@@ -8,7 +8,7 @@ use lib.ListN.{length, getD, replicate, List·getD-append}
 use borrow.Author.Tests.{ltb-true}
 use Rattle.slot.specs.declared.ReadEntry.{ReadEntry}
 use Rattle.slot.specs.declared.SlotRecord.{SlotRecord}
-use Rattle.slot.specs.Layout.{noRead}
+use Rattle.slot.specs.Layout.{readCapacity, noRead}
 use Rattle.slot.specs.Logs.{paddedReads}
 use Rattle.slot.proofs.Logic.{and-left, and-right, all-at}
 use Rattle.slot.proofs.Padding.{length-padded}
@@ -22,11 +22,12 @@ use Rattle.rules.proofs.StateSized.{LogsHold, logs-hold}
 use Rattle.rules.proofs.RoundTrip.{state-right, state-but-holders}
 use Rattle.rules.proofs.AreaRead.{count-read, slots-read}
 use Rattle.area.specs.Good.{Good, stateIn}
+use Rattle.area.specs.InPlace.{recordAt, fieldsIn}
 
--- the read log of v: at most 16 entries, each of a cell of the area
+-- the read log of v fits its array, and each entry is of a cell of the area
 pub record Logged (l : List ℕ) (v : SlotRecord) : Type 0 where
-  pub whole : length (v .reads) ≡ 16
-  pub most : v .readcount ≤ 16
+  pub whole : length (v .reads) ≡ readCapacity
+  pub most : v .readcount ≤ readCapacity
   pub inside : (k : ℕ) → k < v .readcount → getD (v .reads) k noRead .cell < countIn l
 
 -- a slot's record has its read log, padded
@@ -45,9 +46,9 @@ count-laid (twilight ignoring start commit reads writes) = refl
 count-laid (publishing ignoring taken start commit reads writes) = refl
 
 module _ (cells : List Cell) (clock : ℕ) where
-  -- at most 16 reads, each of a cell
+  -- reads that fit the array, each of a cell
   record ReadsHold (reads : List ReadEntry) : Type 0 where
-    most : length reads ≤ 16
+    most : length reads ≤ readCapacity
     inside : (k : ℕ) → k < length reads → getD reads k noRead .cell < length cells
 
   from-logs : {start : ℕ} {reads : List ReadEntry} {writes : List _} → LogsHold cells clock start reads writes → ReadsHold reads
@@ -78,14 +79,23 @@ slot-holds l good i h =
 logged-laid : (l : List ℕ) (x : Slot) → ReadsHold (stateIn l .cells) (stateIn l .clock) (readsOf x) → Logged l (lay x)
 logged-laid l x holds =
     record {
-      whole = ap length (reads-laid x) ∙ length-padded noRead (readsOf x) 16 (holds .most);
+      whole = ap length (reads-laid x) ∙ length-padded noRead (readsOf x) readCapacity (holds .most);
       most = rw (count-laid x) (holds .most);
       inside = λ k b.
           let below : k < length (readsOf x) = rw (count-laid x) at b in
-          rw (reads-laid x, List·getD-append (readsOf x) (replicate (16 - length (readsOf x)) noRead) noRead k below, ← count-read controller l) (holds .inside k below);
+          rw (reads-laid x, List·getD-append (readsOf x) (replicate (readCapacity - length (readsOf x)) noRead) noRead k below, ← count-read controller l) (holds .inside k below);
     }
 
 -- the record of a slot of a good area
 pub logged-of : (l : List ℕ) → Good l → (i : ℕ) → i < 8 → (v : SlotRecord) → v ≡ lay (slotAt (stateIn l) i) → Logged l v
 logged-of l good i h v e =
     rw e (logged-laid l (slotAt (stateIn l) i) (reads-hold (stateIn l .cells) (stateIn l .clock) (slotAt (stateIn l) i) (slot-holds l good i h)))
+
+-- its read log, of which the slot's fields give the count
+pub record Counted (l : List ℕ) (i n : ℕ) : Type 0 where
+  pub count : n ≡ recordAt l i .readcount
+  pub logged : Logged l (recordAt l i)
+
+pub counted-of : {l : List ℕ} {i : ℕ} {h : SlotRecord} → Good l → i < 8 → h ≡ fieldsIn l i → Counted l i (h .readcount)
+counted-of {l = l} {i = i} good below e =
+    record { count = ap (λ (u : SlotRecord). u .readcount) e; logged = logged-of l good i below (recordAt l i) refl }

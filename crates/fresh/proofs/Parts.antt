@@ -9,7 +9,7 @@ use lib.ListN.{length, getD, drop, replicate, length-append, getD-replicate}
 use Rattle.wire.specs.Part.{splice}
 use Rattle.wire.specs.Table.{cat}
 use Rattle.wire.proofs.Laws.Field.{length-toBe}
-use Rattle.wire.proofs.Laws.Table.{cat-ext, length-cat, length-tab, getD-tab}
+use Rattle.wire.proofs.Laws.Table.{cat-ext, length-cat}
 use Rattle.wire.proofs.Laws.Part.{splice-next, splice-whole}
 use Rattle.slot.specs.Layout.{empty, slotBytes}
 use Rattle.slot.proofs.Logic.{and-left, and-right}
@@ -20,6 +20,7 @@ use Rattle.rules.specs.LogsRight.{cellCountRight}
 use Rattle.rules.specs.Layout.{cellBytes, lay, header, pack}
 use Rattle.rules.specs.Area.{describedCount, describedCell, describedCells, fresh, lengthsFit, layOut}
 use Rattle.rules.proofs.CellBytes.{length-cellBytes}
+use Rattle.rules.proofs.LaidOut.{described-length, described-at}
 use Rattle.fresh.specs.LaidOut.{LaidOut}
 use Rattle.fresh.specs.Parts.{describedLegal, freshHeader, freshCells, freshSlots}
 
@@ -36,26 +37,17 @@ lengths-of a ds p =
     record { many = leb-true _ _ (and-right _ _ count); long = omega arith }
 
 module _ (ds : List ℕ) where
-  -- there are as many cells as descriptions, each the one that its description gives
-  pub described-length : length (describedCells ds) ≡ describedCount ds
-  unfolding describedCells
-  described-length = length-tab (describedCount ds) (λ k. describedCell (drop (5 * k) ds))
-
-  pub described-at : (k : ℕ) → k < describedCount ds → getD (describedCells ds) k noCell ≡ describedCell (drop (5 * k) ds)
-  unfolding describedCells
-  described-at k h = getD-tab (describedCount ds) (λ j. describedCell (drop (5 * j) ds)) noCell k h
-
   -- the three parts are a fresh state's
   parts : freshHeader (describedCount ds) ++ freshCells (describedCount ds) ds ++ freshSlots ≡ pack controller (fresh controller (describedCells ds))
   unfolding pack header
   parts =
       let cells : freshCells (describedCount ds) ds ≡ cat (describedCount ds) (λ c. cellBytes 8 (getD (describedCells ds) c noCell)) =
       cat-ext (describedCount ds) (λ c. cellBytes 8 (describedCell (drop (5 * c) ds))) (λ c. cellBytes 8 (getD (describedCells ds) c noCell))
-      (λ c h. ap (cellBytes 8) (sym (described-at c h))) in
+      (λ c h. ap (cellBytes 8) (sym (described-at ds c h))) in
       let slots : freshSlots ≡ cat 8 (λ i. slotBytes 8 (lay (getD (replicate 8 idle) i idle))) =
       cat-ext 8 (λ i. slotBytes 8 empty) (λ i. slotBytes 8 (lay (getD (replicate 8 idle) i idle)))
       (λ i h. ap (λ x. slotBytes 8 (lay x)) (sym (getD-replicate 8 i idle idle h))) in
-      rw described-length (λ i. freshHeader (describedCount ds) ++ cells i ++ slots i)
+      rw (described-length ds) (λ i. freshHeader (describedCount ds) ++ cells i ++ slots i)
 
   -- put one after the other over a whole area they leave it packed
   pub laid-out : (n : ℕ) (a x y z : List ℕ) → n ≡ describedCount ds → length a ≡ 1590 + 14 * n

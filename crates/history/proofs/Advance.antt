@@ -26,11 +26,12 @@ use Rattle.rules.specs.StateRight.{slotRight, isIdle}
 use Rattle.rules.specs.State.{commitOf, startOf, readsOf, writesOf}
 use Rattle.rules.proofs.StateSized.{LogsHold}
 use Rattle.history.proofs.Keeps.Lists.{first-none}
-use Rattle.history.proofs.Keeps.Logs.{put-same, found-there}
+use Rattle.history.proofs.Keeps.Logs.{put-same}
 use Rattle.history.proofs.Keeps.Kinds.{kinds-free}
 use Rattle.history.proofs.Invariant.{LateWrite, Owes, LogKnown, Settled, ReadsKnown, turned, All-map, All-both, All-snoc, All-mapped, all-each}
 use Rattle.rules.specs.Steps.{publishingOrIdle}
 use Rattle.slot.specs.Layout.{noWrite}
+use Rattle.slot.proofs.Search.{write-has}
 use Rattle.history.proofs.Commit.{owing-case}
 use Rattle.history.proofs.Publish.{publish-stable, publish-inv}
 use Rattle.history.proofs.Turn.{Turn, turn-stable, reads-stay}
@@ -200,7 +201,7 @@ module _ (M : Model) (start : State) (L : List Commit) (R : List SharedRead) (S 
   advance (reread-done e) = λ right kinds. stays
   advance (updated {ignoring = ignoring} {start = begins} {commit = commit} {c = c} {v = v} {e = e} {reads = reads} {writes = writes} x fit found) =
       let t = twilight-turn (begun M start) M (logAt L) S (along .inv) i inside ignoring ignoring begins commit reads writes (putWrite (newWrite c v) writes) x
-      (λ d. put-same (newWrite c v) writes d (found-there writes c e found)) in
+      (λ d. put-same (newWrite c v) writes d (write-has writes c e found)) in
       turns _ _ _ t (known _ _ (twilight ignoring begins commit reads writes) _ x t) (subst (Fresh M start L) x (along .new-stamps i))
   advance (ask-done e) = λ right kinds. stays
   advance (reloading {ignoring = ignoring} {start = begins} {commit = commit} {reads = reads} {writes = writes} x clear below) =

@@ -28,7 +28,7 @@ use Rattle.rules.specs.Step.{Call}
 use Rattle.slot.proofs.Logic.{and-left, and-false}
 use Rattle.history.specs.History.{Event, ownSlot, accepts, Commit, committedBy, SharedRead, fromShared, readBy}
 use Rattle.history.proofs.Cases.{Refusal}
-use Rattle.slot.proofs.Search.{of-none, of-some}
+use Rattle.slot.proofs.Search.{read-lacks, read-has, write-lacks, write-has}
 use Rattle.history.proofs.Move.{Move, began, read-written, read-again, read-first, wrote, closed, locked, entered, reread-done, updated, ask-done, reloading, ignored, nothing-to-ignore, aborted, committed, published, gave-up}
 use Rattle.history.proofs.Right.{Right}
 
@@ -100,23 +100,6 @@ no-commit e p = rw p
 pub no-read : (e : Event) → accepts 2 e ≡ false → readIn e ≡ []
 unfolding _and_
 no-read e p = rw p
-
--- a log has a cell exactly if it has an entry for it
-write-lacks : (writes : List WriteEntry) (c : ℕ) → writeEntry writes c ≡ none → writesCell writes c ≡ false
-unfolding writeEntry writesCell
-write-lacks writes c = of-none (λ (e : WriteEntry). eqb (e .cell) c) writes
-
-write-has : (writes : List WriteEntry) (c : ℕ) (e : WriteEntry) → writeEntry writes c ≡ some e → writesCell writes c ≡ true
-unfolding writeEntry writesCell
-write-has writes c e = of-some (λ (e : WriteEntry). eqb (e .cell) c) writes e
-
-read-lacks : (reads : List ReadEntry) (c : ℕ) → readEntry reads c ≡ none → readsCell reads c ≡ false
-unfolding readEntry readsCell
-read-lacks reads c = of-none (λ (e : ReadEntry). eqb (e .cell) c) reads
-
-read-has : (reads : List ReadEntry) (c : ℕ) (e : ReadEntry) → readEntry reads c ≡ some e → readsCell reads c ≡ true
-unfolding readEntry readsCell
-read-has reads c e = of-some (λ (e : ReadEntry). eqb (e .cell) c) reads e
 
 -- the cell that a read names
 read-names : (n cell kind word c : ℕ) → n ≡ 2 → decoded n cell kind word ≡ Made (Read c) → cell ≡ c

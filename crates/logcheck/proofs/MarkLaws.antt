@@ -16,13 +16,13 @@ use Rattle.slot.specs.declared.ReadEntry.{ReadEntry}
 use Rattle.slot.specs.Layout.{readOf, slotOf}
 use Rattle.slot.specs.Logic.{_and_, _or_, every, any}
 use Rattle.slot.specs.Logs.{readLog, someMarked}
-use Rattle.slot.proofs.Logic.{and-intro, and-left, and-right, and-true, and-false, or-right, false-or, true-or, or-true, true-and, both-ways, every-at}
+use Rattle.slot.proofs.Logic.{and-intro, and-left, and-right, and-true, and-false, or-right, false-or, or-false, true-or, or-true, true-and, both-ways, every-at}
 use Rattle.rules.specs.AreaRight.{zeros, marksRight, ignoringRight, flagsRight, unusedZero}
 use Rattle.rules.proofs.Zeros.{zeros-at}
 use Rattle.logcheck.specs.Logged.{Counted}
 use Rattle.logcheck.specs.Marked.{MarksGathered, markedRight}
 use Rattle.logcheck.proofs.Chains.{stop}
-use Rattle.logcheck.proofs.Tables.{or-false, take-tab, any-next, any-cut}
+use Rattle.logcheck.proofs.Tables.{take-tab, any-next, any-cut}
 
 -- bits: a bitwise or of two is a disjunction
 or-bit : (a b : ℕ) → a ≤ 1 → b ≤ 1 → (bitOr a b ≤ 1) × (eqb (bitOr a b) 1 ≡ (eqb a 1 or eqb b 1))

@@ -10,18 +10,8 @@ use lib.ListN.{getD, take}
 use Rattle.wire.specs.Table.{cat, tab}
 use Rattle.wire.proofs.Laws.Table.{length-tab, getD-tab, tab-ext, tab-take}
 use Rattle.slot.specs.Logic.{_and_, _or_, every, all, any, pairwise}
-use Rattle.slot.proofs.Logic.{and-true, true-and, and-assoc, false-or}
+use Rattle.slot.proofs.Logic.{and-true, true-and, and-assoc, false-or, or-false, or-assoc}
 use Rattle.logcheck.proofs.Chains.{and-comm, and-swap, every-and}
-
-pub or-false : (b : Bool) → (b or false) ≡ b
-unfolding _or_
-or-false true = refl
-or-false false = refl
-
-or-assoc : (a b c : Bool) → ((a or b) or c) ≡ (a or (b or c))
-unfolding _or_
-or-assoc true b c = refl
-or-assoc false b c = refl
 
 module _ {A : Type 0} where
   -- one element more at the end

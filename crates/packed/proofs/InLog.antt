@@ -30,24 +30,28 @@ module _ (w at : ℕ) (l : List ℕ) where
   unfolding slotOf
   writes-sized = length-tab writeCapacity (λ i. writeOf (drop (writesAt w + writeSize * i) (drop at l)))
 
--- of the first entries, as many as are counted, none before place i passes
-pub record Sought {A : Type 0} (f : A → Bool) (array : List A) (count i : ℕ) : Type 0 where
+-- of the first entries, as many as are counted, none before place i passes; the array has `size` entries
+pub record Sought {A : Type 0} (f : A → Bool) (array : List A) (size count i : ℕ) : Type 0 where
+  pub sized : length array ≡ size
   pub left : first f (take count array) ≡ first f (drop i (take count array))
 
-pub sought-start : {A : Type 0} (f : A → Bool) (array : List A) (count : ℕ) → Sought f array count 0
-sought-start f array count = record { left = refl }
+pub sought-start : {A : Type 0} {f : A → Bool} {array : List A} {size count : ℕ} → length array ≡ size → Sought f array size count 0
+sought-start sized = record { sized = sized; left = refl }
 
-module _ {A : Type 0} (f : A → Bool) (d : A) (array : List A) (n count i : ℕ) (counted : count ≡ n) (sized : length array ≡ 16) (so-far : Sought f array count i) where
-  pub entry-next : {e : A} → i < count → i < 16 → e ≡ getD array i d → f e ≡ false → Sought f array count (i + 1)
-  entry-next h k there q = record { left = search-next f d array count i (so-far .left) h (omega arith) (rw (← there) q) }
+module _ {A : Type 0} {f : A → Bool} (d : A) {array : List A} {size count i : ℕ} (so-far : Sought f array size count i) where
+  pub entry-next : {e : A} → i < count → i < size → e ≡ getD array i d → f e ≡ false → Sought f array size count (i + 1)
+  entry-next h k there q =
+      record { sized = so-far .sized; left = search-next f d array count i (so-far .left) h (omega (arith, so-far .sized)) (rw (← there) q) }
 
-  pub entry-found : {e : A} → i < count → i < 16 → e ≡ getD array i d → f e ≡ true → some e ≡ first f (take n array)
-  entry-found h k there q =
-      rw (← counted, there) (sym (search-found f d array count i (so-far .left) h (omega arith) (rw (← there) q)))
+  -- what is found, or that nothing is, for as many entries as the log has
+  module _ {n : ℕ} (counted : count ≡ n) where
+    pub entry-found : {e : A} → i < count → i < size → e ≡ getD array i d → f e ≡ true → some e ≡ first f (take n array)
+    entry-found h k there q =
+        rw (← counted, there) (sym (search-found f d array count i (so-far .left) h (omega (arith, so-far .sized)) (rw (← there) q)))
 
-  -- past the count, or past the array
-  pub entry-none : count ≤ i → none ≡ first f (take n array)
-  entry-none h = rw (← counted) (sym (search-end f d array count i (so-far .left) (rw length-take (omega arith))))
+    -- past the count, or past the array
+    pub entry-none : count ≤ i → none ≡ first f (take n array)
+    entry-none h = rw (← counted) (sym (search-end f d array count i (so-far .left) (rw length-take (omega arith))))
 
-  pub entry-out : 16 ≤ i → none ≡ first f (take n array)
-  entry-out h = rw (← counted) (sym (search-end f d array count i (so-far .left) (rw length-take (omega (arith, sized)))))
+    pub entry-out : size ≤ i → none ≡ first f (take n array)
+    entry-out h = rw (← counted) (sym (search-end f d array count i (so-far .left) (rw length-take (omega (arith, so-far .sized)))))

@@ -5,13 +5,13 @@ use mathlib.Core.Path.{_≡_, refl, sym, _∙_, ap}
 use Prim.Native.Nat.{ℕ, suc, _+_, _*_, _<_, _≤_}
 use native.Mathlib.Nat.{mul-suc, mul-le-mul-left}
 use native.Mathlib.Omega.{arith}
-use lib.ListN.{length, getD, take, drop, length-drop, length-map, List·getD-map}
+use lib.ListN.{length, getD, take, drop, length-drop, List·getD-map}
 use lib.Seq.{take-add, take-length}
 use borrow.Author.Tests.{eqb-true}
 use Rattle.wire.specs.Field.{Bytes, toBe}
 use Rattle.wire.specs.Table.{cat, tab}
 use Rattle.wire.proofs.Laws.Field.{toBe-be, be-bound, bytes-drop}
-use Rattle.wire.proofs.Laws.Table.{cat-ext, length-tab, getD-tab, cat-back-at}
+use Rattle.wire.proofs.Laws.Table.{cat-ext, getD-tab, cat-back-at}
 use Rattle.slot.specs.Layout.{empty, slotOf, slotBytes}
 use Rattle.slot.proofs.RoundTrip.{bytes-back, slot-fits}
 use Rattle.rules.specs.Model.{Model, headerSize, cellSize, sizeOfSlot, cellOffset, slotOffset, areaLength}
@@ -19,6 +19,7 @@ use Rattle.rules.specs.State.{cellCount, cellAt, slotAt, noCell}
 use Rattle.rules.specs.Layout.{cellOf, cellBytes, lay, view, header, pack, versionIn, lengthIn, countIn, clockIn, slotPlace, cellsIn, recordsIn, stateOf}
 use Rattle.rules.specs.AreaRight.{lengthsAgree, versionRight, slotPlaceRight, wellFormedButHolders}
 use Rattle.slot.proofs.Logic.{and-left, and-right, every-at}
+use Rattle.rules.proofs.AreaRead.{count-read, slots-read}
 use Rattle.rules.proofs.CellBytes.{cell-fits, cell-bytes-back}
 use Rattle.rules.proofs.SlotKept.{slot-kept}
 use Rattle.rules.proofs.Places.{Sized}
@@ -67,15 +68,11 @@ module _ (M : Model) (a : List ℕ) (bytes : Bytes a) (right : wellFormedButHold
       every-at (M .slots) (λ s. slotPlaceRight M (cellsIn M a) (clockIn M a) (slotPlace M a s))
       (and-left _ _ (and-right _ _ (and-right _ _ (and-right _ _ (and-right _ _ right)))))
 
-  count : cellCount (stateOf M a) ≡ countIn a
-  unfolding stateOf cellsIn
-  count = length-tab (countIn a) (λ c. cellOf (M .stampBytes) (drop (cellOffset M c) a))
-
   header-kept : header M (stateOf M a) ≡ take (headerSize M) a
   unfolding header stateOf
   header-kept =
-      let size : areaLength M (cellCount (stateOf M a)) ≡ lengthIn a = ap (areaLength M) count ∙ sym (field ∙ long) in
-      ap (λ (n : ℕ). (M .version ∷ toBe 4 (areaLength M (cellCount (stateOf M a)))) ++ (n ∷ toBe (M .stampBytes) (clockIn M a))) count
+      let size : areaLength M (cellCount (stateOf M a)) ≡ lengthIn a = ap (areaLength M) (count-read M a) ∙ sym (field ∙ long) in
+      ap (λ (n : ℕ). (M .version ∷ toBe 4 (areaLength M (cellCount (stateOf M a)))) ++ (n ∷ toBe (M .stampBytes) (clockIn M a))) (count-read M a)
       ∙ front (M .stampBytes) a (M .version) (countIn a) (toBe 4 (areaLength M (cellCount (stateOf M a)))) (toBe (M .stampBytes) (clockIn M a))
       (omega (arith, long)) version refl
       (ap (toBe 4) size ∙ toBe-be 4 (drop 1 a) (bytes-drop 1 a bytes) (rw length-drop (omega (arith, long))))
@@ -84,7 +81,7 @@ module _ (M : Model) (a : List ℕ) (bytes : Bytes a) (right : wellFormedButHold
   cells-kept : cat (cellCount (stateOf M a)) (λ c. cellBytes (M .stampBytes) (cellAt (stateOf M a) c)) ≡ take (cellSize M * countIn a) (drop (headerSize M) a)
   unfolding stateOf cellsIn
   cells-kept =
-      ap (λ (n : ℕ). cat n (λ c. cellBytes (M .stampBytes) (cellAt (stateOf M a) c))) count
+      ap (λ (n : ℕ). cat n (λ c. cellBytes (M .stampBytes) (cellAt (stateOf M a) c))) (count-read M a)
       ∙ cat-back-at noCell (cellSize M) (cellOf (M .stampBytes)) (cellBytes (M .stampBytes)) (countIn a) (headerSize M) a
       (λ c h.
       cell-bytes-back (M .stampBytes) (drop (cellOffset M c) a) (bytes-drop (cellOffset M c) a bytes)
@@ -120,11 +117,11 @@ module _ (M : Model) (a : List ℕ) (bytes : Bytes a) (right : wellFormedButHold
   unfolding stateOf cellsIn recordsIn
   area-sized =
       record {
-        lengthFits = rw (count, ← long, ← field) (be-bound 4 (drop 1 a) (bytes-drop 1 a bytes));
+        lengthFits = rw (count-read M a, ← long, ← field) (be-bound 4 (drop 1 a) (bytes-drop 1 a bytes));
         clockFits = be-bound (M .stampBytes) (drop 6 a) (bytes-drop 6 a bytes);
-        slotCount = length-map (recordsIn M a) view ∙ length-tab (M .slots) (λ s. slotOf (M .stampBytes) (slotPlace M a s));
+        slotCount = slots-read M a;
         cellsFit = λ c h.
-            rw (getD-tab (countIn a) (λ j. cellOf (M .stampBytes) (drop (cellOffset M j) a)) noCell c (rw (← count) h))
+            rw (getD-tab (countIn a) (λ j. cellOf (M .stampBytes) (drop (cellOffset M j) a)) noCell c (rw (← count-read M a) h))
             (cell-fits (M .stampBytes) (drop (cellOffset M c) a) (bytes-drop (cellOffset M c) a bytes));
         slotsFit = λ s h. rw (record-kept s h) (slot-fits (M .stampBytes) (slotPlace M a s) (bytes-drop (slotOffset M (countIn a) s) a bytes));
       }

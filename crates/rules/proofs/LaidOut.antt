@@ -74,6 +74,16 @@ module _ (M : Model) (cells : List Cell) (count : cellCountRight M (length cells
       (and-intro _ _ (all-same (slotRight cells 0) idle (M .slots) refl) (pairwise-same (λ (x y : Slot). stampsApart (commitOf x) (commitOf y)) idle (M .slots) refl)))))
       fresh-holders
 
+-- there are as many cells as descriptions, each the one that its description gives
+module _ (ds : List ℕ) where
+  pub described-length : length (describedCells ds) ≡ describedCount ds
+  unfolding describedCells
+  described-length = length-tab (describedCount ds) (λ k. describedCell (drop (descriptionSize * k) ds))
+
+  pub described-at : (k : ℕ) → k < describedCount ds → getD (describedCells ds) k noCell ≡ describedCell (drop (descriptionSize * k) ds)
+  unfolding describedCells
+  described-at k h = getD-tab (describedCount ds) (λ j. describedCell (drop (descriptionSize * j) ds)) noCell k h
+
 -- what an accepted lay-out has tested
 accepted : (fit legal : Bool) (x y z : Laying) → y .code ≡ 6 → z .code ≡ 1 → cond fit (cond legal x y) z .code ≡ 0
     → (fit ≡ true) × (legal ≡ true)
@@ -90,15 +100,10 @@ module _ (M : Model) (fits : FitsBytes M) (a ds : List ℕ) (e : layOut M a ds .
   unfolding layOut
   laid-packed = rw (tested .0, tested .1)
 
-  laid-count : length (describedCells ds) ≡ describedCount ds
-  unfolding describedCells
-  laid-count = length-tab (describedCount ds) (λ i. describedCell (drop (descriptionSize * i) ds))
-
   laid-cells : (c : ℕ) → c < length (describedCells ds) → Described (getD (describedCells ds) c noCell)
-  unfolding describedCells describedCell
+  unfolding describedCell
   laid-cells c h =
-      let cell : getD (describedCells ds) c noCell ≡ describedCell (drop (descriptionSize * c) ds) =
-      getD-tab (describedCount ds) (λ i. describedCell (drop (descriptionSize * i) ds)) noCell c (rw laid-count at h) in
+      let cell = described-at ds c (rw (described-length ds) at h) in
       record {
         free = ap (λ (x : Cell). x .holder) cell;
         unstamped = ap (λ (x : Cell). x .stamp) cell;
@@ -107,7 +112,7 @@ module _ (M : Model) (fits : FitsBytes M) (a ds : List ℕ) (e : layOut M a ds .
 
   pub laid-right : stateRight M (fresh M (describedCells ds)) ≡ true
   unfolding lengthsFit
-  laid-right = fresh-right M (describedCells ds) (rw laid-count (and-left _ _ (and-right _ _ (tested .0)))) laid-cells
+  laid-right = fresh-right M (describedCells ds) (rw (described-length ds) (and-left _ _ (and-right _ _ (tested .0)))) laid-cells
 
   laid-rests : atRest M (layOut M a ds .bytes) ≡ true
   unfolding atRest

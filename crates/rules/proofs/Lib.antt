@@ -19,3 +19,4 @@ pub mod LaidOut
 pub mod Controller
 pub mod AreaRead
 pub mod Stores
+pub mod Freed

@@ -27,7 +27,8 @@ use Rattle.rules.specs.AreaRight.{zeros, countsRight, flagsRight, unused
 use Rattle.rules.specs.declared.Cell.{Cell}
 use Rattle.slot.proofs.Logic.{and-assoc, and-true, true-and, true-or, false-or, or-when, and-intro, every-of}
 use Rattle.rules.proofs.LayView.{read-log, write-log}
-use Rattle.rules.proofs.Zeros.{zeros-front, empty-bytes}
+use Rattle.slot.proofs.Zero.{empty-bytes}
+use Rattle.rules.proofs.Zeros.{zeros-front}
 
 bit-le : (b : Bool) → leb (bit b) 1 ≡ true
 bit-le true = refl

@@ -1,19 +1,18 @@
--- Zero bytes: what an idle slot and an unused entry are made of, and what is read off them.
+-- Zero bytes: what is read off them.
 use mathlib.Core.Bool.{true}
-use mathlib.Core.List.{List, _++_}
-use mathlib.Core.Path.{_≡_, refl, sym, _∙_, ap}
-use Prim.Native.Nat.{ℕ, zero, suc, _+_, _*_, _<_, _≤_}
+use mathlib.Core.List.{List}
+use mathlib.Core.Path.{_≡_, sym, _∙_, ap}
+use Prim.Native.Nat.{ℕ, _+_, _*_, _<_, _≤_}
 use native.Mathlib.Omega.{arith}
-use native.Mathlib.Numerals.{add-one}
 use lib.Dec.{eqb}
-use lib.ListN.{getD, take, drop, replicate, getD-replicate, replicate-append-replicate}
+use lib.ListN.{getD, take, drop, replicate, getD-replicate}
 use lib.Seq.{getD-take, getD-drop}
 use borrow.Author.Tests.{eq-eqb, eqb-true}
-use Rattle.wire.specs.Field.{be, toBe}
+use Rattle.wire.specs.Field.{be}
 use Rattle.wire.specs.Table.{cat, tab}
 use Rattle.wire.proofs.Laws.Field.{be-zero}
 use Rattle.wire.proofs.Laws.Table.{tab-ext}
-use Rattle.slot.specs.Layout.{readCapacity, writeCapacity, noRead, noWrite, readOf, readBytes, readSize, writeOf, writeBytes, writeSize, startAt, commitAt, readsAt, writesAt, slotSize, empty, slotOf, slotBytes}
+use Rattle.slot.specs.Layout.{readCapacity, writeCapacity, noRead, noWrite, readOf, readSize, writeOf, writeSize, startAt, commitAt, readsAt, writesAt, slotSize, empty, slotOf}
 use Rattle.rules.specs.AreaRight.{zeros}
 use Rattle.slot.proofs.Logic.{every-at, every-of}
 
@@ -35,14 +34,9 @@ zeros-front n l e =
 pub zeros-drop : (n at : ℕ) (l : List ℕ) (k : ℕ) → zeros n l ≡ true → at + k ≤ n → zeros k (drop at l) ≡ true
 zeros-drop n at l k p h = zeros-of k (drop at l) (λ i b. getD-drop at l i 0 ∙ zeros-at n l p (at + i) (omega arith))
 
--- a field of zeros is 0, and 0 is a field of zeros
+-- a field of zeros is 0
 pub zero-field : (w : ℕ) (l : List ℕ) → zeros w l ≡ true → be w l ≡ 0
 zero-field w l p = be-zero w l (zeros-at w l p)
-
-pub toBe-zero : (w : ℕ) → toBe w 0 ≡ replicate w 0
-unfolding toBe
-toBe-zero zero = refl
-toBe-zero (suc w) = rw (toBe-zero w) (replicate-append-replicate w 1 0 ∙ ap (λ (n : ℕ). replicate n 0) (add-one w))
 
 -- an entry of zeros is no entry
 pub zero-read : (l : List ℕ) → zeros readSize l ≡ true → readOf l ≡ noRead
@@ -60,26 +54,7 @@ zero-write l p =
     let second = zero-field 4 (drop 1 l) (zeros-drop writeSize 1 l 4 p (omega arith)) in
     λ i. record { cell = first i; word = second i }
 
--- zeros, one part after the other
-joined : (z a b c d e : ℕ) → replicate a z ++ replicate b z ++ replicate c z ++ replicate d z ++ replicate e z ≡ replicate (a + b + c + d + e) z
-joined z a b c d e = simp replicate-append-replicate
-
-no-reads : cat readCapacity (λ i. readBytes (getD (empty .reads) i noRead)) ≡ replicate (readSize * readCapacity) 0
-unfolding cat readBytes toBe
-no-reads = refl
-
-no-writes : cat writeCapacity (λ i. writeBytes (getD (empty .writes) i noWrite)) ≡ replicate (writeSize * writeCapacity) 0
-unfolding cat writeBytes toBe
-no-writes = refl
-
--- an idle slot is all zero, and what is all zero is an idle slot
-pub empty-bytes : (w : ℕ) → slotBytes w empty ≡ replicate (slotSize w) 0
-unfolding slotBytes
-empty-bytes w =
-    let size : startAt + w + w + readSize * readCapacity + writeSize * writeCapacity ≡ slotSize w = omega arith in
-    rw (toBe-zero w, no-reads, no-writes)
-    (joined 0 startAt w w (readSize * readCapacity) (writeSize * writeCapacity) ∙ ap (λ (n : ℕ). replicate n 0) size)
-
+-- a slot of zeros is an idle one
 pub zero-slot : (w : ℕ) (l : List ℕ) → zeros (slotSize w) l ≡ true → slotOf w l ≡ empty
 unfolding slotOf tab cat
 zero-slot w l p =

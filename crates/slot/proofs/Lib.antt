@@ -4,5 +4,6 @@ pub mod Unique
 pub mod Logic
 pub mod Search
 pub mod Padding
+pub mod Zero
 pub mod Carry
 pub mod Laws

@@ -56,6 +56,16 @@ unfolding _or_
 or-true true = refl
 or-true false = refl
 
+pub or-false : (b : Bool) → (b or false) ≡ b
+unfolding _or_
+or-false true = refl
+or-false false = refl
+
+pub or-assoc : (a b c : Bool) → ((a or b) or c) ≡ (a or (b or c))
+unfolding _or_
+or-assoc true b c = refl
+or-assoc false b c = refl
+
 -- one test holds where the other one does not
 pub or-when : (a b : Bool) → (a ≡ false → b ≡ true) → (a or b) ≡ true
 unfolding _or_

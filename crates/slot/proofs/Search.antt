@@ -7,9 +7,13 @@ use mathlib.Core.Path.{_≡_, refl, sym, _∙_}
 use Prim.Native.Nat.{ℕ, suc, _+_, _<_, _≤_}
 use native.Mathlib.Numerals.{add-one}
 use native.Mathlib.Omega.{arith}
+use lib.Dec.{eqb}
 use lib.ListN.{length, getD, take, drop, length-take, drop-of-length-le}
 use lib.Seq.{drop-cons, getD-take}
 use Rattle.slot.specs.Logic.{_or_, any, first}
+use Rattle.slot.specs.Logs.{readEntry, writeEntry, readsCell, writesCell}
+use Rattle.slot.specs.declared.ReadEntry.{ReadEntry}
+use Rattle.slot.specs.declared.WriteEntry.{WriteEntry}
 
 -- one element in front: by its test, and by what is known of the rest
 module _ {A : Type 0} (x : A) where
@@ -53,6 +57,23 @@ module _ {A : Type 0} (f : A → Bool) where
   unfolding first
   found-passes [] y p = let z : _≡_ {A = ℕ} 0 1 = cc in absurd (omega arith)
   found-passes (x ∷ l) y p = front-passes x f (f x) (first f l) y refl (found-passes l y) p
+
+-- a log has a cell exactly if it has an entry for it
+pub read-lacks : (reads : List ReadEntry) (c : ℕ) → readEntry reads c ≡ none → readsCell reads c ≡ false
+unfolding readEntry readsCell
+read-lacks reads c = of-none (λ (e : ReadEntry). eqb (e .cell) c) reads
+
+pub read-has : (reads : List ReadEntry) (c : ℕ) (e : ReadEntry) → readEntry reads c ≡ some e → readsCell reads c ≡ true
+unfolding readEntry readsCell
+read-has reads c = of-some (λ (e : ReadEntry). eqb (e .cell) c) reads
+
+pub write-lacks : (writes : List WriteEntry) (c : ℕ) → writeEntry writes c ≡ none → writesCell writes c ≡ false
+unfolding writeEntry writesCell
+write-lacks writes c = of-none (λ (e : WriteEntry). eqb (e .cell) c) writes
+
+pub write-has : (writes : List WriteEntry) (c : ℕ) (e : WriteEntry) → writeEntry writes c ≡ some e → writesCell writes c ≡ true
+unfolding writeEntry writesCell
+write-has writes c = of-some (λ (e : WriteEntry). eqb (e .cell) c) writes
 
 -- a search through the first n elements of an array, at place i
 module _ {A : Type 0} (f : A → Bool) (d : A) (array : List A) (n i : ℕ) (from : first f (take n array) ≡ first f (drop i (take n array))) where

@@ -18,6 +18,7 @@ use Rattle.rules.specs.State.{State, Slot, idle, cellCount, cellAt, slotAt, noC
 use Rattle.rules.specs.Cells.{freed}
 use Rattle.rules.specs.Layout.{lay, view, pack}
 use Rattle.rules.specs.declared.Cell.{Cell}
+use Rattle.rules.proofs.Freed.{freedFrom}
 use Rattle.rules.proofs.Stores.{pack-slot, holder-packed, pack-holder}
 use Rattle.stores.specs.Stores.{cleared}
 
@@ -67,10 +68,6 @@ module _ (S : State) (n i : ℕ) (l : List ℕ) (at : ℕ) (slots : length (S .s
     writes-put w j m first second =
         second ∙ ap (λ (x : List ℕ). splice x (at + writesAt 8) (writeLogBytes (w .writes))) (fields-put w j first)
         ∙ put-writes 8 l at (withFields (lay (slotAt S i)) w) fits (w .writes)
-
--- a cell that slot i holds freed, any other as it is
-abbrev pub freedFrom : ℕ → Cell → Cell
-freedFrom i x = cond (eqb (x .holder) (suc i)) (freed x) x
 
 -- the byte of cell c's holder cleared where it is slot i's
 pub cell-freed : (S : State) (i c : ℕ) → c < cellCount S

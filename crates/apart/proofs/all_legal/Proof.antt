@@ -9,7 +9,7 @@ use Rattle.rules.specs.State.{noCell}
 use Rattle.rules.specs.Area.{describedCells}
 use Rattle.wire.proofs.Laws.Field.{be-bound, bytes-drop}
 use Rattle.fresh.specs.Parts.{legalCell}
-use Rattle.fresh.proofs.Parts.{described-length}
+use Rattle.rules.proofs.LaidOut.{described-length}
 use Rattle.fresh.proofs.Tested.{all-failed, all-passed, all-tested}
 use Rattle.apart.specs.Apart.{descriptionsLegal}
 use Rattle.apart.proofs.Reading.{described-test}

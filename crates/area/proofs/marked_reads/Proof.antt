@@ -8,14 +8,14 @@ use Rattle.slot.specs.Layout.{noRead}
 use Rattle.rules.specs.State.{slotAt}
 use Rattle.rules.specs.Layout.{lay}
 use Rattle.area.specs.Good.{stateIn}
-use Rattle.area.proofs.Logged.{logged-of}
+use Rattle.area.proofs.Logged.{Counted, counted-of}
 use Rattle.rules.specs.Cells.{withMark}
 use Rattle.area.proofs.Fill.{filled, filled-length, filled-next}
 use Rattle.area.proofs.marked_reads.Statement.{statement}
 use Rattle.area.proofs.marked_reads.Tie as tie
 
 abbrev Inv-loop : tie.InvT-loop
-Inv-loop s i start n log₀ k₀ log k = (k ≤ n) × (log ≡ filled (withMark (stateIn s) i start) noRead (lay (slotAt (stateIn s) i) .reads) k)
+Inv-loop s i start n log₀ k₀ log k = (k ≤ n) × Counted s i n × (log ≡ filled (withMark (stateIn s) i start) noRead (lay (slotAt (stateIn s) i) .reads) k)
 
 abbrev μ-loop : tie.MeasureT-loop
 μ-loop s i start n log₀ k₀ log k = n - k
@@ -27,112 +27,67 @@ cast-n : tie.Need-cast-n Inv-loop μ-loop
 cast-n c =
     let start = let c : tie.Start Inv-loop μ-loop = search in c in
     let fields-at = let c : tie.After-fields-at Inv-loop μ-loop = search in c .fields-at .ensures in
-    let S = stateIn (start .args .s .now) in
-    let v = lay (slotAt S (start .args .i)) in
-    let count = ap (λ (u : SlotRecord). u .readcount) fields-at in
-    let logged = logged-of (start .args .s .now) (start .pre .0) (start .args .i) (start .pre .1) v refl in
+    let counted = counted-of (start .pre .0) (start .pre .1) fields-at in
     omega arith
 
 loop-holds : tie.Need-loop-holds Inv-loop μ-loop
 loop-holds c =
+    let start = let c : tie.Start Inv-loop μ-loop = search in c in
     let fields-at = let c : tie.After-fields-at Inv-loop μ-loop = search in c .fields-at .ensures in
-    (omega arith, ap (λ (u : SlotRecord). u .reads) fields-at)
+    (omega arith, counted-of (start .pre .0) (start .pre .1) fields-at, ap (λ (u : SlotRecord). u .reads) fields-at)
 
 read-at-requires : tie.Need-read-at-requires Inv-loop μ-loop
 read-at-requires c κs =
     let start = let c : tie.Start Inv-loop μ-loop = search in c in
-    let fields-at = let c : tie.After-fields-at Inv-loop μ-loop = search in c .fields-at .ensures in
-    let S = stateIn (start .args .s .now) in
-    let v = lay (slotAt S (start .args .i)) in
-    let count = ap (λ (u : SlotRecord). u .readcount) fields-at in
-    let logged = logged-of (start .args .s .now) (start .pre .0) (start .args .i) (start .pre .1) v refl in
     ((start .pre .0), (start .pre .1), omega arith)
 
 marked-entry-requires : tie.Need-marked-entry-requires Inv-loop μ-loop
 marked-entry-requires c κs =
     let start = let c : tie.Start Inv-loop μ-loop = search in c in
-    let fields-at = let c : tie.After-fields-at Inv-loop μ-loop = search in c .fields-at .ensures in
-    let loop = let c : tie.At-loop Inv-loop μ-loop = search in c .loop .k in
-    let S = stateIn (start .args .s .now) in
-    let v = lay (slotAt S (start .args .i)) in
-    let count = ap (λ (u : SlotRecord). u .readcount) fields-at in
-    let logged = logged-of (start .args .s .now) (start .pre .0) (start .args .i) (start .pre .1) v refl in
-    ((start .pre .0), (start .pre .1), rw (c .read-at .ensures) (logged .inside loop (omega arith)))
+    let loop = let c : tie.At-loop Inv-loop μ-loop = search in c .loop in
+    ((start .pre .0), (start .pre .1), rw (c .read-at .ensures) (loop .inv .1 .logged .inside (loop .k) (omega arith)))
 
 mul-log : tie.Need-mul-log Inv-loop μ-loop
-mul-log c =
-    let start = let c : tie.Start Inv-loop μ-loop = search in c in
-    let fields-at = let c : tie.After-fields-at Inv-loop μ-loop = search in c .fields-at .ensures in
-    let S = stateIn (start .args .s .now) in
-    let v = lay (slotAt S (start .args .i)) in
-    let count = ap (λ (u : SlotRecord). u .readcount) fields-at in
-    let logged = logged-of (start .args .s .now) (start .pre .0) (start .args .i) (start .pre .1) v refl in
-    omega arith
+mul-log c = omega arith
 
 array-set-from-log : tie.Need-array-set-from-log Inv-loop μ-loop
 array-set-from-log c =
     let start = let c : tie.Start Inv-loop μ-loop = search in c in
-    let fields-at-ensures = let c : tie.After-fields-at Inv-loop μ-loop = search in c .fields-at .ensures in
     let fields-at-result = let c : tie.After-fields-at Inv-loop μ-loop = search in c .fields-at .result in
-    let loop-k = let c : tie.At-loop Inv-loop μ-loop = search in c .loop .k in
-    let loop-inv = let c : tie.At-loop Inv-loop μ-loop = search in c .loop .inv in
+    let loop = let c : tie.At-loop Inv-loop μ-loop = search in c .loop in
     let S = stateIn (start .args .s .now) in
     let v = lay (slotAt S (start .args .i)) in
-    let count = ap (λ (u : SlotRecord). u .readcount) fields-at-ensures in
-    let logged = logged-of (start .args .s .now) (start .pre .0) (start .args .i) (start .pre .1) v refl in
-    let size = filled-length (withMark S (start .args .i) (fields-at-result .start)) noRead (v .reads) loop-k (omega arith) (omega arith) in
-    let same = ap length (loop-inv .1) in
+    let size = filled-length (withMark S (start .args .i) (fields-at-result .start)) noRead (v .reads) (loop .k) (omega arith) (omega arith) in
+    let same = ap length (loop .inv .2) in
     omega arith
 
 add-k : tie.Need-add-k Inv-loop μ-loop
-add-k c =
-    let start = let c : tie.Start Inv-loop μ-loop = search in c in
-    let fields-at = let c : tie.After-fields-at Inv-loop μ-loop = search in c .fields-at .ensures in
-    let S = stateIn (start .args .s .now) in
-    let v = lay (slotAt S (start .args .i)) in
-    let count = ap (λ (u : SlotRecord). u .readcount) fields-at in
-    let logged = logged-of (start .args .s .now) (start .pre .0) (start .args .i) (start .pre .1) v refl in
-    omega arith
+add-k c = omega arith
 
 loop-less : tie.Need-loop-less Inv-loop μ-loop
-loop-less c =
-    let start = let c : tie.Start Inv-loop μ-loop = search in c in
-    let fields-at = let c : tie.After-fields-at Inv-loop μ-loop = search in c .fields-at .ensures in
-    let S = stateIn (start .args .s .now) in
-    let v = lay (slotAt S (start .args .i)) in
-    let count = ap (λ (u : SlotRecord). u .readcount) fields-at in
-    let logged = logged-of (start .args .s .now) (start .pre .0) (start .args .i) (start .pre .1) v refl in
-    omega arith
+loop-less c = omega arith
 
 loop-again : tie.Need-loop-again Inv-loop μ-loop
 loop-again c =
     let start = let c : tie.Start Inv-loop μ-loop = search in c in
-    let fields-at-ensures = let c : tie.After-fields-at Inv-loop μ-loop = search in c .fields-at .ensures in
     let fields-at-result = let c : tie.After-fields-at Inv-loop μ-loop = search in c .fields-at .result in
-    let loop-log = let c : tie.At-loop Inv-loop μ-loop = search in c .loop .log in
-    let loop-k = let c : tie.At-loop Inv-loop μ-loop = search in c .loop .k in
-    let loop-inv = let c : tie.At-loop Inv-loop μ-loop = search in c .loop .inv in
+    let loop = let c : tie.At-loop Inv-loop μ-loop = search in c .loop in
     let read-at = let c : tie.After-read-at Inv-loop μ-loop = search in c .read-at .ensures in
     let S = stateIn (start .args .s .now) in
     let v = lay (slotAt S (start .args .i)) in
-    let count = ap (λ (u : SlotRecord). u .readcount) fields-at-ensures in
-    let logged = logged-of (start .args .s .now) (start .pre .0) (start .args .i) (start .pre .1) v refl in
     let new = (c .marked-entry .ensures) ∙ ap (withMark S (start .args .i) (fields-at-result .start)) read-at in
-    (omega arith, filled-next (withMark S (start .args .i) (fields-at-result .start)) noRead (v .reads) loop-log (c .marked-entry .result) loop-k (omega arith) (omega arith) (loop-inv .1) new)
+    (omega arith, loop .inv .1, filled-next (withMark S (start .args .i) (fields-at-result .start)) noRead (v .reads) (loop .log) (c .marked-entry .result) (loop .k) (omega arith) (omega arith) (loop .inv .2) new)
 
 returns : tie.Need-returns Inv-loop μ-loop
 returns c =
     let start = let c : tie.Start Inv-loop μ-loop = search in c in
     let fields-at = let c : tie.After-fields-at Inv-loop μ-loop = search in c .fields-at .ensures in
-    let loop-k = let c : tie.At-loop Inv-loop μ-loop = search in c .loop .k in
-    let loop-inv = let c : tie.At-loop Inv-loop μ-loop = search in c .loop .inv in
+    let loop = let c : tie.At-loop Inv-loop μ-loop = search in c .loop in
     let S = stateIn (start .args .s .now) in
     let v = lay (slotAt S (start .args .i)) in
-    let count = ap (λ (u : SlotRecord). u .readcount) fields-at in
-    let logged = logged-of (start .args .s .now) (start .pre .0) (start .args .i) (start .pre .1) v refl in
     let began = ap (λ (u : SlotRecord). u .start) fields-at in
-    let all : loop-k ≡ v .readcount = omega arith in
-    (loop-inv .1) ∙ (λ j. filled (withMark S (start .args .i) (began j)) noRead (v .reads) (all j))
+    let all : loop .k ≡ v .readcount = omega arith in
+    loop .inv .2 ∙ (λ j. filled (withMark S (start .args .i) (began j)) noRead (v .reads) (all j))
 
 pub marked-reads-spec : {M : Type 1} → statement M
 marked-reads-spec =

@@ -9,7 +9,7 @@ use Rattle.rules.specs.State.{noCell}
 use Rattle.rules.specs.Area.{describedCells}
 use Rattle.fresh.specs.Parts.{legalCell, describedLegal}
 use Rattle.fresh.proofs.Tested.{all-failed, all-passed, all-tested}
-use Rattle.fresh.proofs.Parts.{described-length, described-at}
+use Rattle.rules.proofs.LaidOut.{described-length, described-at}
 use Rattle.fresh.proofs.all_legal.Statement.{statement}
 use Rattle.fresh.proofs.all_legal.Tie as tie
 

@@ -32,7 +32,8 @@ use Rattle.slot.proofs.Logic.{true-or, or-true}
 use Rattle.history.specs.Frame.{namesCell, concerns, Alike}
 use Rattle.history.proofs.Keeps.Lists.{set-same, any-at, first-agree, first-elim, map-agree}
 use Rattle.history.proofs.Keeps.Logs.{logged-there}
-use Rattle.history.proofs.Keeps.Kinds.{freedFrom, free-cell}
+use Rattle.rules.proofs.Freed.{freedFrom}
+use Rattle.history.proofs.Keeps.Kinds.{free-cell}
 use Rattle.history.proofs.Frame.Both.{Acceptance, Matches, both-refused, both-accepted, both-cond, both-refuse, both-found, both-log, both-idle, both-open, both-locking, both-twilight, both-publishing, both-uncommitted}
 
 module _ {S S′ : State} {i : ℕ} {names : ℕ → Bool} (a : Alike S S′ i names) where

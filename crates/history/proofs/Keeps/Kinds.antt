@@ -1,5 +1,5 @@
 -- No step changes the number of cells or a cell's kind: it leaves the cells alone, or replaces one by one of the same kind, or frees some.
-use mathlib.Core.Bool.{true, false, cond}
+use mathlib.Core.Bool.{true, false}
 use mathlib.Core.List.{List, map}
 use mathlib.Core.Path.{_≡_, refl, sym, _∙_, ap}
 use Prim.Native.Nat.{ℕ, suc}
@@ -8,6 +8,7 @@ use lib.ListN.{length, getD, set, length-set, length-map, List·getD-map}
 use Rattle.rules.specs.declared.Cell.{Cell}
 use Rattle.rules.specs.State.{noCell}
 use Rattle.rules.specs.Cells.{freed, freeAll}
+use Rattle.rules.proofs.Freed.{freedFrom}
 use Rattle.history.proofs.Keeps.Lists.{cond-elim, set-each}
 
 -- as many cells, each of the kind it was
@@ -22,10 +23,7 @@ pub kinds-set : (cells : List Cell) (c : ℕ) (x : Cell) → x .kind ≡ getD ce
 kinds-set cells c x e =
     record { count = length-set cells c x; kind = set-each (λ d (y : Cell). y .kind ≡ getD cells d noCell .kind) cells c x noCell e (λ d. refl) }
 
--- a cell of slot i, freed; any other cell as it is
-abbrev pub freedFrom : ℕ → Cell → Cell
-freedFrom i x = cond (eqb (x .holder) (suc i)) (freed x) x
-
+-- each cell after all that slot i holds is freed
 pub free-cell : (i : ℕ) (cells : List Cell) (c : ℕ) → getD (freeAll i cells) c noCell ≡ freedFrom i (getD cells c noCell)
 unfolding freeAll
 free-cell i cells c =

@@ -10,7 +10,7 @@ use lib.ListN.{length, getD, set, drop}
 use lib.Seq.{getD-set-same, getD-set-other, set-out}
 use borrow.Author.Tests.{eqb-true, eqb-false, ltb-true, ltb-false, not-true}
 use Rattle.slot.specs.Logic.{_or_, same, all, any, pairwise, first}
-use Rattle.slot.proofs.Logic.{and-intro, and-left, and-right, true-or, or-true, all-of}
+use Rattle.slot.proofs.Logic.{and-intro, and-left, and-right, true-or, or-true, or-assoc, all-of}
 
 -- case on two numbers being the same
 pub same-or-not : (P : Type 0) (m n : ℕ) → (m ≡ n → P) → ((m ≡ n → ⊥) → P) → P
@@ -35,16 +35,6 @@ pub eq-same : (a b : Bool) → a ≡ b → same a b ≡ true
 unfolding same
 eq-same true b p = sym p
 eq-same false b p = ap not (sym p)
-
-or-assoc : (a b c : Bool) → ((a or b) or c) ≡ (a or b or c)
-unfolding _or_
-or-assoc true b c = refl
-or-assoc false b c = refl
-
-pub or-false : (a : Bool) → (a or false) ≡ a
-unfolding _or_
-or-false true = refl
-or-false false = refl
 
 pub or-neither : (a b : Bool) → (a or b) ≡ false → (a ≡ false) × (b ≡ false)
 unfolding _or_
@@ -142,7 +132,7 @@ module _ {A : Type 0} where
   any-none f [] p = refl
   any-none f (x ∷ l) p = rw (not-true (f x) (and-left _ _ p)) (any-none f l (and-right _ _ p))
 
-  -- a search finds nothing only where the test holds of nothing, and something only where it holds of something
+  -- a search finds nothing only where the test holds of nothing
   pub first-none : (f : A → Bool) (l : List A) → first f l ≡ none → all (λ x. not (f x)) l ≡ true
   unfolding first all
   first-none f [] e = refl
@@ -151,15 +141,6 @@ module _ {A : Type 0} where
       by : (b : Bool) → f x ≡ b → (first f l ≡ none → all (λ y. not (f y)) l ≡ true) → all (λ y. not (f y)) (x ∷ l) ≡ true
       by true p rest = let found : some x ≡ none = rw p at e in cc
       by false p rest = and-intro _ _ (rw p) (rest (rw p at e))
-
-  pub first-some : (f : A → Bool) (l : List A) (x : A) → first f l ≡ some x → any f l ≡ true
-  unfolding first any _or_
-  first-some f [] x e = cc
-  first-some f (y ∷ l) x e = by (f y) refl (first-some f l x)
-    where
-      by : (b : Bool) → f y ≡ b → (first f l ≡ some x → any f l ≡ true) → any f (y ∷ l) ≡ true
-      by true p rest = rw p
-      by false p rest = rw p (rest (rw p at e))
 
   -- what holds at each place of the list holds of what is found
   pub first-elim : (P : A → Type 0) (f : A → Bool) (l : List A) (d x : A) → ((k : ℕ) → k < length l → P (getD l k d)) → first f l ≡ some x → P x

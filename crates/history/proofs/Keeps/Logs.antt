@@ -1,24 +1,24 @@
 -- Logs stay right: an entry of a new cell may join the read log, a legal entry may be put into the write log, which goes on ascending, and marks and legal
 -- new words change no cell of a log.
-use mathlib.Core.Bool.{Bool, true, false, not, false≢true}
+use mathlib.Core.Bool.{Bool, true, false, not}
 use mathlib.Core.List.{List, [], _∷_, _++_, map}
-use mathlib.Core.Option.{none, some}
+use mathlib.Core.Option.{none}
 use mathlib.Core.Path.{_≡_, refl, sym, _∙_, ap}
 use Prim.Native.Nat.{ℕ, suc, _<_, _≤_}
 use native.Mathlib.Omega.{arith}
-use lib.Dec.{eqb, ltb, leb}
+use lib.Dec.{eqb, ltb}
 use lib.ListN.{length, getD, take, drop, take-append-drop}
 use lib.Seq.{take-suc, drop-cons}
-use borrow.Author.Tests.{eqb-true, eqb-false, ltb-true, ltb-false, leb-false, lt-ltb, ne-eqb, eq-eqb}
+use borrow.Author.Tests.{eqb-true, eqb-false, ltb-true, ltb-false, lt-ltb, ne-eqb, eq-eqb}
 use Rattle.slot.specs.declared.ReadEntry.{ReadEntry}
 use Rattle.slot.specs.declared.WriteEntry.{WriteEntry}
 use Rattle.slot.specs.Layout.{noWrite}
 use Rattle.rules.specs.declared.Cell.{Cell}
 use Rattle.slot.specs.Logic.{_and_, _or_, all, any, pairwise}
-use Rattle.slot.specs.Logs.{readEntry, writeEntry, writesCell, putWrite}
+use Rattle.slot.specs.Logs.{readEntry, writesCell, putWrite}
 use Rattle.rules.specs.LogsRight.{loggedRight, readsRight, writesRight}
-use Rattle.slot.proofs.Logic.{and-intro, and-left, and-right, true-and, false-or, true-or, or-true, or-right, all-map, pairwise-map}
-use Rattle.history.proofs.Keeps.Lists.{same-or-not, cond-elim, or-false, or-neither, or-twice, or-swap, all-imp, all-snoc, pairwise-snoc, pairwise-drop, any-append, any-none, any-at, first-none, first-some}
+use Rattle.slot.proofs.Logic.{and-intro, and-left, and-right, false-or, or-false, true-or, or-true, all-map, pairwise-map}
+use Rattle.history.proofs.Keeps.Lists.{same-or-not, cond-elim, or-neither, or-twice, or-swap, all-imp, all-snoc, pairwise-snoc, pairwise-drop, any-append, any-none, any-at, first-none}
 
 abbrev pub above : ℕ → WriteEntry → Bool
 above c y = ltb c (y .cell)
@@ -72,31 +72,6 @@ module _ (e : WriteEntry) where
       (λ h. rw h (sym (or-twice (eqb (x .cell) c) (writesCell l c))))
       (λ h. rw (put-cells l c) (or-swap (eqb (x .cell) c) (eqb (e .cell) c) (writesCell l c)))
 
-  put-longer : (l : List WriteEntry) → length (putWrite e l) ≤ suc (length l)
-  unfolding putWrite
-  put-longer [] = omega arith
-  put-longer (x ∷ l) =
-      put-elim (λ (m : List WriteEntry). length m ≤ suc (suc (length l))) e x l (λ h. omega arith) (λ h. omega arith) (λ h. omega (arith, put-longer l))
-
-  put-again : (l : List WriteEntry) → pairwise rises l ≡ true → writesCell l (e .cell) ≡ true → length (putWrite e l) ≤ length l
-  unfolding putWrite writesCell any pairwise all
-  put-again [] p w = absurd (false≢true w)
-  put-again (x ∷ l) p w =
-      put-elim (λ (m : List WriteEntry). length m ≤ suc (length l)) e x l
-      (λ h.
-      let absent = above-none (x ∷ l) (e .cell) (and-intro _ _ (lt-ltb _ _ h) (above-more l (e .cell) (x .cell) (omega arith) (and-left _ _ p))) in
-      absurd (false≢true (sym absent ∙ w)))
-      (λ h. omega arith)
-      (λ h. omega (arith, put-again l (and-right _ _ p) (or-right (eqb (x .cell) (e .cell)) (writesCell l (e .cell)) (ne-eqb (x .cell) (e .cell) (omega arith)) w)))
-
-  pub put-few : (n : ℕ) (l : List WriteEntry) → pairwise rises l ≡ true → length l ≤ n → (not (writesCell l (e .cell)) and leb n (length l)) ≡ false
-      → length (putWrite e l) ≤ n
-  put-few n l p few room = by (writesCell l (e .cell)) refl
-    where
-      by : (b : Bool) → writesCell l (e .cell) ≡ b → length (putWrite e l) ≤ n
-      by true w = omega (arith, put-again l p w)
-      by false w = omega (arith, put-longer l, leb-false n (length l) (rw (w, true-and) at room))
-
   -- where the cell is in the log already, the log keeps its cells
   pub put-same : (l : List WriteEntry) (c : ℕ) → writesCell l (e .cell) ≡ true → writesCell (putWrite e l) c ≡ writesCell l c
   put-same l c w =
@@ -105,11 +80,7 @@ module _ (e : WriteEntry) where
       (λ h. rw (← h, w) (or-true (eqb (e .cell) (e .cell))))
       (λ n. rw (ne-eqb (e .cell) c n) (false-or (writesCell l c)))
 
--- a cell whose entry is found, and the cell of the entry at k, is in the log
-pub found-there : (l : List WriteEntry) (c : ℕ) (e : WriteEntry) → writeEntry l c ≡ some e → writesCell l c ≡ true
-unfolding writeEntry writesCell
-found-there l c e = first-some (λ (y : WriteEntry). eqb (y .cell) c) l e
-
+-- the cell of the entry at k is in the log
 pub logged-there : (l : List WriteEntry) (k c : ℕ) → k < length l → c ≡ getD l k noWrite .cell → writesCell l c ≡ true
 unfolding writesCell
 logged-there l k c h e = any-at (λ (y : WriteEntry). eqb (y .cell) c) l noWrite k h (eq-eqb (getD l k noWrite .cell) c (sym e))

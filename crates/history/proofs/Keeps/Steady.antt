@@ -24,11 +24,13 @@ use Rattle.rules.specs.LogsRight.{cellRight, loggedRight, readsRight, writesRig
 use Rattle.rules.specs.StateRight.{holds}
 use Rattle.rules.specs.Steps.{publishingOrIdle}
 use Rattle.slot.proofs.Logic.{and-intro, and-left, and-right}
+use Rattle.slot.proofs.Search.{write-has}
+use Rattle.slot.proofs.Laws.Operations.{put-few}
 use Rattle.rules.proofs.StateSized.{LogsHold}
 use Rattle.history.proofs.Move.{Fitting, newRead, newWrite}
 use Rattle.history.proofs.Right.{Right}
 use Rattle.history.proofs.Keeps.Lists.{any-append}
-use Rattle.history.proofs.Keeps.Logs.{put-few, put-same, found-there, reads-joined, reads-changed, writes-put}
+use Rattle.history.proofs.Keeps.Logs.{put-same, reads-joined, reads-changed, writes-put}
 use Rattle.history.proofs.Keeps.Slots.{SlotHolds, owing-right, owing-holds}
 use Rattle.history.proofs.Keeps.Turn.{slot-now, keeps-stamp, new-stamp, owing-stamp, still}
 
@@ -163,7 +165,7 @@ module _ (M : Model) (S : State) (right : Right M S) (i : ℕ) (inside : i < M .
     unfolding holds _and_
     updated-right c v e fit found =
         let (logs, above, given, flag) = twilight-now in
-        let there = found-there writes c e found in
+        let there = write-has writes c e found in
         steady (twilight ignoring start commit reads (putWrite (newWrite c v) writes))
         (logs-put M S right start reads writes logs c v fit (rw there), above, given, flag)
         (rw x) (λ d. rw x (put-same (newWrite c v) writes d there))

@@ -1,14 +1,21 @@
 -- `clear` meets its contract: before each turn the first `k` bytes are zero.
+use mathlib.Core.List.{List}
 use mathlib.Core.Path.{_≡_, refl, sym, ap, _∙_}
-use Prim.Native.Nat.{ℕ, _+_, _-_, _≤_}
+use Prim.Native.Nat.{ℕ, _+_, _-_, _<_, _≤_}
 use native.Mathlib.Omega.{arith}
-use lib.ListN.{length, replicate, length-set}
+use lib.ListN.{length, set, replicate, length-set, length-replicate, replicate-append-replicate}
 use Rattle.wire.specs.Part.{splice}
-use Rattle.wire.proofs.Laws.Part.{splice-nil}
+use Rattle.wire.proofs.Laws.Part.{splice-nil, splice-store}
 use Rattle.slot.specs.Layout.{slotSize}
-use Rattle.packed.proofs.Zero.{empty-bytes, zero-next}
+use Rattle.slot.proofs.Zero.{empty-bytes}
 use Rattle.packed.proofs.clear.Statement.{statement}
 use Rattle.packed.proofs.clear.Tie as tie
+
+-- one zero more
+zero-next : (a : List ℕ) (at k : ℕ) (x : List ℕ) → at + k < length a → x ≡ splice a at (replicate k 0) → set x (at + k) 0 ≡ splice a at (replicate (k + 1) 0)
+zero-next a at k x h first =
+    splice-store a at (replicate k 0) x (at + k) 0 h (rw length-replicate) first
+    ∙ ap (splice a at) (replicate-append-replicate k 1 0)
 
 abbrev Inv-loop : tie.InvT-loop
 Inv-loop s₀ at width size k₀ s k = (k ≤ size) × (length s ≡ length s₀) × (s ≡ splice s₀ at (replicate k 0))

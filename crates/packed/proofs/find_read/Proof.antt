@@ -15,7 +15,7 @@ use Rattle.packed.proofs.find_read.Statement.{statement}
 use Rattle.packed.proofs.find_read.Tie as tie
 
 abbrev Inv-loop : tie.InvT-loop
-Inv-loop s at width cell count i₀ i = Sought (λ (e : ReadEntry). eqb (e .cell) cell) (slotIn width at s .reads) count i
+Inv-loop s at width cell count i₀ i = Sought (λ (e : ReadEntry). eqb (e .cell) cell) (slotIn width at s .reads) readCapacity count i
 
 abbrev μ-loop : tie.MeasureT-loop
 μ-loop s at width cell count i₀ i = readCapacity - i
@@ -33,7 +33,7 @@ cast-count c =
     omega (arith, byte (at + 3))
 
 loop-holds : tie.Need-loop-holds Inv-loop μ-loop
-loop-holds c = sought-start _ _ _
+loop-holds c = let args = let c : tie.Start Inv-loop μ-loop = search in c .args in sought-start (reads-sized (args .width) (args .at) (args .s .now))
 
 read-at-requires : tie.Need-read-at-requires Inv-loop μ-loop
 read-at-requires c κs =
@@ -48,7 +48,7 @@ returns c =
     let more = let c : tie.Then1 Inv-loop μ-loop = search in c .if1 .taken in
     let loop = let c : tie.At-loop Inv-loop μ-loop = search in c .loop in
     let args = let c : tie.Start Inv-loop μ-loop = search in c .args in
-    ap readFound (entry-found (λ (e : ReadEntry). eqb (e .cell) (args .cell)) noRead _ _ _ (loop .i) (reads-counted (args .width) (args .at) (args .s .now)) (reads-sized (args .width) (args .at) (args .s .now)) (loop .inv) (ltb-true _ _ more) (omega arith) here (eq-eqb _ _ same))
+    ap readFound (entry-found noRead (loop .inv) (reads-counted (args .width) (args .at) (args .s .now)) (ltb-true _ _ more) (omega arith) here (eq-eqb _ _ same))
 
 add-i : tie.Need-add-i Inv-loop μ-loop
 add-i c = omega arith
@@ -62,22 +62,21 @@ loop-again c =
     let here = let c : tie.After-read-at Inv-loop μ-loop = search in c .read-at .ensures in
     let more = let c : tie.Then1 Inv-loop μ-loop = search in c .if1 .taken in
     let loop = let c : tie.At-loop Inv-loop μ-loop = search in c .loop in
-    let args = let c : tie.Start Inv-loop μ-loop = search in c .args in
-    entry-next (λ (e : ReadEntry). eqb (e .cell) (args .cell)) noRead _ _ _ (loop .i) (reads-counted (args .width) (args .at) (args .s .now)) (reads-sized (args .width) (args .at) (args .s .now)) (loop .inv) (ltb-true _ _ more) (omega arith) here (ne-eqb _ _ other)
+    entry-next noRead (loop .inv) (ltb-true _ _ more) (omega arith) here (ne-eqb _ _ other)
 
 returns-2 : tie.Need-returns-2 Inv-loop μ-loop
 unfolding readEntry
 returns-2 c =
     let loop = let c : tie.At-loop Inv-loop μ-loop = search in c .loop in
     let args = let c : tie.Start Inv-loop μ-loop = search in c .args in
-    ap readFound (entry-none (λ (e : ReadEntry). eqb (e .cell) (args .cell)) noRead _ _ _ (loop .i) (reads-counted (args .width) (args .at) (args .s .now)) (reads-sized (args .width) (args .at) (args .s .now)) (loop .inv) (omega (arith, ltb-false)))
+    ap readFound (entry-none noRead (loop .inv) (reads-counted (args .width) (args .at) (args .s .now)) (omega (arith, ltb-false)))
 
 returns-3 : tie.Need-returns-3 Inv-loop μ-loop
 unfolding readEntry
 returns-3 c =
     let loop = let c : tie.At-loop Inv-loop μ-loop = search in c .loop in
     let args = let c : tie.Start Inv-loop μ-loop = search in c .args in
-    ap readFound (entry-out (λ (e : ReadEntry). eqb (e .cell) (args .cell)) noRead _ _ _ (loop .i) (reads-counted (args .width) (args .at) (args .s .now)) (reads-sized (args .width) (args .at) (args .s .now)) (loop .inv) (omega arith))
+    ap readFound (entry-out noRead (loop .inv) (reads-counted (args .width) (args .at) (args .s .now)) (omega arith))
 
 pub find-read-spec : {M : Type 1} → statement M
 find-read-spec =

@@ -15,7 +15,7 @@ use Rattle.packed.proofs.find_write.Statement.{statement}
 use Rattle.packed.proofs.find_write.Tie as tie
 
 abbrev Inv-loop : tie.InvT-loop
-Inv-loop s at width cell count i₀ i = Sought (λ (e : WriteEntry). eqb (e .cell) cell) (slotIn width at s .writes) count i
+Inv-loop s at width cell count i₀ i = Sought (λ (e : WriteEntry). eqb (e .cell) cell) (slotIn width at s .writes) writeCapacity count i
 
 abbrev μ-loop : tie.MeasureT-loop
 μ-loop s at width cell count i₀ i = writeCapacity - i
@@ -33,7 +33,7 @@ cast-count c =
     omega (arith, byte (at + 3), byte (at + 4))
 
 loop-holds : tie.Need-loop-holds Inv-loop μ-loop
-loop-holds c = sought-start _ _ _
+loop-holds c = let args = let c : tie.Start Inv-loop μ-loop = search in c .args in sought-start (writes-sized (args .width) (args .at) (args .s .now))
 
 write-at-requires : tie.Need-write-at-requires Inv-loop μ-loop
 write-at-requires c κs =
@@ -48,7 +48,7 @@ returns c =
     let more = let c : tie.Then1 Inv-loop μ-loop = search in c .if1 .taken in
     let loop = let c : tie.At-loop Inv-loop μ-loop = search in c .loop in
     let args = let c : tie.Start Inv-loop μ-loop = search in c .args in
-    ap writeFound (entry-found (λ (e : WriteEntry). eqb (e .cell) (args .cell)) noWrite _ _ _ (loop .i) (writes-counted (args .width) (args .at) (args .s .now)) (writes-sized (args .width) (args .at) (args .s .now)) (loop .inv) (ltb-true _ _ more) (omega arith) here (eq-eqb _ _ same))
+    ap writeFound (entry-found noWrite (loop .inv) (writes-counted (args .width) (args .at) (args .s .now)) (ltb-true _ _ more) (omega arith) here (eq-eqb _ _ same))
 
 add-i : tie.Need-add-i Inv-loop μ-loop
 add-i c = omega arith
@@ -62,22 +62,21 @@ loop-again c =
     let here = let c : tie.After-write-at Inv-loop μ-loop = search in c .write-at .ensures in
     let more = let c : tie.Then1 Inv-loop μ-loop = search in c .if1 .taken in
     let loop = let c : tie.At-loop Inv-loop μ-loop = search in c .loop in
-    let args = let c : tie.Start Inv-loop μ-loop = search in c .args in
-    entry-next (λ (e : WriteEntry). eqb (e .cell) (args .cell)) noWrite _ _ _ (loop .i) (writes-counted (args .width) (args .at) (args .s .now)) (writes-sized (args .width) (args .at) (args .s .now)) (loop .inv) (ltb-true _ _ more) (omega arith) here (ne-eqb _ _ other)
+    entry-next noWrite (loop .inv) (ltb-true _ _ more) (omega arith) here (ne-eqb _ _ other)
 
 returns-2 : tie.Need-returns-2 Inv-loop μ-loop
 unfolding writeEntry
 returns-2 c =
     let loop = let c : tie.At-loop Inv-loop μ-loop = search in c .loop in
     let args = let c : tie.Start Inv-loop μ-loop = search in c .args in
-    ap writeFound (entry-none (λ (e : WriteEntry). eqb (e .cell) (args .cell)) noWrite _ _ _ (loop .i) (writes-counted (args .width) (args .at) (args .s .now)) (writes-sized (args .width) (args .at) (args .s .now)) (loop .inv) (omega (arith, ltb-false)))
+    ap writeFound (entry-none noWrite (loop .inv) (writes-counted (args .width) (args .at) (args .s .now)) (omega (arith, ltb-false)))
 
 returns-3 : tie.Need-returns-3 Inv-loop μ-loop
 unfolding writeEntry
 returns-3 c =
     let loop = let c : tie.At-loop Inv-loop μ-loop = search in c .loop in
     let args = let c : tie.Start Inv-loop μ-loop = search in c .args in
-    ap writeFound (entry-out (λ (e : WriteEntry). eqb (e .cell) (args .cell)) noWrite _ _ _ (loop .i) (writes-counted (args .width) (args .at) (args .s .now)) (writes-sized (args .width) (args .at) (args .s .now)) (loop .inv) (omega arith))
+    ap writeFound (entry-out noWrite (loop .inv) (writes-counted (args .width) (args .at) (args .s .now)) (omega arith))
 
 pub find-write-spec : {M : Type 1} → statement M
 find-write-spec =

@@ -1,22 +1,22 @@
 -- The operations on a busy slot's record, in terms of its logs. A log fills the front of its array and the rest is unused, so that the log is read back from
 -- the array, and an entry put into the array is put into the log.
-use mathlib.Core.Bool.{Bool, true, false, cond, false≢true}
+use mathlib.Core.Bool.{Bool, true, false, not, cond, false≢true}
 use mathlib.Core.List.{List, [], _∷_, _++_}
 use mathlib.Core.Path.{_≡_, refl, sym, ap}
 use Prim.Native.Nat.{ℕ, suc, _+_, _-_, _<_, _≤_}
 use native.Mathlib.Numerals.{add-one}
 use native.Mathlib.Omega.{arith}
-use lib.Dec.{eqb, ltb}
+use lib.Dec.{eqb, leb, ltb}
 use lib.ListN.{length, replicate, length-append}
 use lib.Seq.{take-append-seam}
-use borrow.Author.Tests.{ltb-true, eqb-true, eqb-false, lt-ltb, ne-eqb}
+use borrow.Author.Tests.{ltb-true, leb-false, eqb-true, eqb-false, lt-ltb, ne-eqb}
 use Rattle.slot.specs.Layout.{readCapacity, writeCapacity, noRead, noWrite, empty}
-use Rattle.slot.specs.Logic.{_or_, any, all, pairwise}
+use Rattle.slot.specs.Logic.{_and_, _or_, any, all, pairwise}
 use Rattle.slot.specs.Logs.{paddedReads, paddedWrites, readLog, writeLog, busyRecord, putWrite, writesCell}
 use Rattle.slot.specs.Operations.{withReads, withWrites, Writable, joined, written, lockedOne, entered, reloadedWith, ignoringSet, finished, publishedOne}
 use Rattle.slot.specs.declared.ReadEntry.{ReadEntry}
 use Rattle.slot.specs.declared.WriteEntry.{WriteEntry}
-use Rattle.slot.proofs.Logic.{and-left, and-right, or-right}
+use Rattle.slot.proofs.Logic.{and-left, and-right, true-and, or-right}
 use Rattle.slot.proofs.Padding.{padded-next}
 
 module _ (phase : ℕ) (ignoring : Bool) (taken start commit : ℕ) (reads : List ReadEntry) (writes : List WriteEntry) where
@@ -131,3 +131,12 @@ put-length-same e (x ∷ writes) p q =
         absurd (omega arith)
     by false true t u rest = refl
     by false false t u rest = ap suc (rest (further (λ here. eqb-false (e .cell) (x .cell) u (sym here))))
+
+-- so an ascending log has room for an entry unless it is full and has not the entry's cell
+pub put-few : (e : WriteEntry) (n : ℕ) (writes : List WriteEntry) → pairwise (λ (f g : WriteEntry). ltb (f .cell) (g .cell)) writes ≡ true → length writes ≤ n
+    → (not (writesCell writes (e .cell)) and leb n (length writes)) ≡ false → length (putWrite e writes) ≤ n
+put-few e n writes rises few free = by (writesCell writes (e .cell)) refl
+  where
+    by : (b : Bool) → writesCell writes (e .cell) ≡ b → length (putWrite e writes) ≤ n
+    by true w = omega (arith, put-length-same e writes w rises)
+    by false w = omega (arith, put-length e writes, leb-false n (length writes) (rw (w, true-and) at free))

@@ -11,11 +11,12 @@ use Rattle.rules.specs.Cells.{freeAll}
 use Rattle.rules.specs.Layout.{pack}
 use Rattle.rules.specs.declared.Cell.{Cell}
 use Rattle.rules.proofs.AreaRead.{count-read}
+use Rattle.rules.proofs.Freed.{freedFrom}
 use Rattle.area.specs.Good.{stateIn}
 use Rattle.stores.specs.Stores.{cleared}
 use Rattle.area.proofs.Good.{good-kept}
 use Rattle.stores.proofs.Sweep.{sweep, sweep-length, sweep-turn, sweep-end}
-use Rattle.stores.proofs.Stored.{freedFrom, cell-freed}
+use Rattle.stores.proofs.Stored.{cell-freed}
 use Rattle.stores.proofs.free_cells.Statement.{statement}
 use Rattle.stores.proofs.free_cells.Tie as tie
 

@@ -1,12 +1,13 @@
 -- Fields of any width: both round trips go by induction over the width, since the definitions take the lowest byte off in the same way.
-use mathlib.Core.Path.{_≡_, refl, sym}
+use mathlib.Core.Path.{_≡_, refl, sym, ap, _∙_}
 use mathlib.Core.List.{List, [], _∷_, _++_, append-assoc}
 use Prim.Native.Nat.{ℕ, zero, suc, _+_, _*_, _/_, _%_, _^_, _≤_, _<_}
 use native.Mathlib.Nat.{pow-zero, pow-suc, div-add-mod'}
+use native.Mathlib.Numerals.{add-one}
 use native.Mathlib.Omega.{arith}
 use lib.Arith.{digits-lt, digits-div, digits-mod}
 use lib.Dec.{lit<}
-use lib.ListN.{length, getD, take, drop, length-append, List·getD-append}
+use lib.ListN.{length, getD, take, drop, replicate, length-append, replicate-append-replicate, List·getD-append}
 use lib.Seq.{take-suc, getD-at, getD-drop}
 use Rattle.wire.specs.Field.{Bytes, be, toBe}
 
@@ -81,8 +82,13 @@ be-ext (suc w) k l e = rw (be-ext w k l (λ i h. e i (omega arith)), e w (omega 
 pub be-front : (w : ℕ) (l rest : List ℕ) → w ≤ length l → be w (l ++ rest) ≡ be w l
 be-front w l rest h = be-ext w (l ++ rest) l (λ i below. List·getD-append l rest 0 i (omega arith))
 
--- a field whose bytes are all 0 is 0
+-- a field whose bytes are all 0 is 0, and 0 is a field of such bytes
 pub be-zero : (w : ℕ) (l : List ℕ) → ((i : ℕ) → i < w → getD l i 0 ≡ 0) → be w l ≡ 0
 unfolding be
 be-zero zero l z = refl
 be-zero (suc w) l z = rw (be-zero w l (λ i h. z i (omega arith)), z w (omega arith))
+
+pub toBe-zero : (w : ℕ) → toBe w 0 ≡ replicate w 0
+unfolding toBe
+toBe-zero zero = refl
+toBe-zero (suc w) = rw (toBe-zero w) (replicate-append-replicate w 1 0 ∙ ap (λ (n : ℕ). replicate n 0) (add-one w))

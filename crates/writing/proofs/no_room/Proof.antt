@@ -6,11 +6,11 @@ use borrow.Author.Tests.{lt-leb, le-leb}
 use Rattle.slot.specs.Layout.{writeCapacity}
 use Rattle.slot.specs.Logic.{_and_}
 use Rattle.slot.proofs.Logic.{and-false}
+use Rattle.slot.proofs.Search.{write-has, write-lacks}
 use Rattle.rules.specs.State.{slotAt}
 use Rattle.rules.specs.Layout.{lay}
 use Rattle.area.specs.Good.{stateIn}
 use Rattle.ways.proofs.Fields.{fields}
-use Rattle.writing.proofs.Room.{cell-found, cell-missing}
 use Rattle.ways.proofs.Found.{write-sought}
 use Rattle.writing.proofs.no_room.Statement.{statement}
 use Rattle.writing.proofs.no_room.Tie as tie
@@ -43,7 +43,7 @@ returns-2 : tie.Need-returns-2
 unfolding _and_
 returns-2 c =
     let find-write = let c : tie.After-find-write = search in c .find-write .ensures in
-    rw (cell-found _ _ _ (write-sought _ find-write (c .enum-told .given .1)))
+    rw (write-has _ _ _ (write-sought _ find-write (c .enum-told .given .1)))
 
 returns-3 : tie.Need-returns-3
 unfolding _and_
@@ -55,7 +55,7 @@ returns-3 c =
     let v = lay (slotAt (stateIn (start .args .s .now)) (start .args .i)) in
     let f = fields v fields-at in
     let full : writeCapacity ≤ v .writecount = omega (arith, if1) in
-    rw (cell-missing _ _ (write-sought _ find-write (c .enum-told2 .given .1)), le-leb writeCapacity (v .writecount) full)
+    rw (write-lacks _ _ (write-sought _ find-write (c .enum-told2 .given .1)), le-leb writeCapacity (v .writecount) full)
 
 pub no-room-spec : {M : Type 1} → statement M
 no-room-spec =
