@@ -5,7 +5,7 @@ use Prim.Native.Nat.{ℕ, _+_, _*_, _/_}
 use lib.Dec.{eqb, leb}
 use lib.ListN.{length, getD, take, drop}
 use Rattle.value.specs.Legal.{legalWord}
-use Rattle.wire.specs.Field.{be}
+use Rattle.wire.specs.Field.{be, fieldAt}
 use Rattle.slot.specs.Logic.{_and_, all}
 use Rattle.rules.specs.Model.{controller}
 use Rattle.rules.specs.LogsRight.{cellCountRight}
@@ -13,6 +13,13 @@ use Rattle.rules.specs.Area.{descriptionSize, describedCells}
 use Rattle.rules.specs.declared.Cell.{Cell}
 use Rattle.apart.specs.declared.Sheet.{Sheet}
 use Rattle.apart.specs.declared.Sheet.the-variants.{Good, Bad}
+
+-- the byte at `at`, 0 past the end, and the word of a step
+abbrev pub byteAt : List ℕ → ℕ → ℕ
+byteAt s at = getD s at 0
+
+abbrev pub wordOf : List ℕ → ℕ
+wordOf s = fieldAt s 4 4
 
 -- steps of 8 bytes, at most 4,096
 abbrev pub stepSize : ℕ
@@ -23,7 +30,7 @@ mostSteps = 4096
 
 -- the version, and the two lengths
 abbrev pub versionOf : List ℕ → ℕ
-versionOf s = getD s 0 0
+versionOf s = byteAt s 0
 
 abbrev pub describedLength : List ℕ → ℕ
 describedLength s = be 2 (drop 1 s)

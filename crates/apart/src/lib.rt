@@ -1,9 +1,9 @@
 // A step sheet taken apart. Any bytes are taken.
 ghost use mathlib.Core.Path.{_≡_};
 ghost use Prim.Native.Nat.{_<_};
-ghost use lib.ListN.{drop, getD};
-ghost use Rattle.wire.specs.Field.{be, fieldAt};
-ghost use Rattle.apart.specs.Apart.{describedRight, stepsRight, descriptionsLegal, takenApart};
+ghost use lib.ListN.{drop};
+ghost use Rattle.wire.specs.Field.{be};
+ghost use Rattle.apart.specs.Apart.{byteAt, wordOf, describedRight, stepsRight, descriptionsLegal, takenApart};
 
 // A sheet's parts: how many cells it describes, where its first step stands, and how many steps it has.
 pub enum Sheet {
@@ -35,7 +35,7 @@ const MOST_STEPS: usize = 4096;
 
 // The byte at `at`; past the end, 0, so that nothing is asked of a sheet before it is known to be whole.
 pub fn byte(s: &[u8], at: usize) -> u8
-    ensures { λ r. ⌜ r ≡ getD (now (s .entry)) at 0 ⌝ }
+    ensures { λ r. ⌜ r ≡ byteAt (now (s .entry)) at ⌝ }
 {
     if at < s.len() {
         return s[at];
@@ -55,7 +55,7 @@ fn pair(s: &[u8], at: usize) -> usize
 
 // The number in the four bytes from 4 on.
 pub fn word(s: &[u8]) -> u32
-    ensures { λ r. ⌜ r ≡ fieldAt (now (s .entry)) 4 4 ⌝ }
+    ensures { λ r. ⌜ r ≡ wordOf (now (s .entry)) ⌝ }
 {
     (pair(s, 4) * 65536 + pair(s, 6)) as u32
 }

@@ -1,17 +1,15 @@
 // Whether the logs of a slot are right: cells below n, words legal, no cell twice, the write log ascending; unused entries zero; the marks.
 ghost use mathlib.Core.Path.{_≡_};
-ghost use Prim.Native.Nat.{_+_, _≤_, _<_};
+ghost use Prim.Native.Nat.{_+_, _≤_};
 ghost use lib.ListN.{length, drop};
 ghost use Rattle.wire.specs.Field.{be};
-ghost use Rattle.value.specs.Legal.{legalWord};
 ghost use Rattle.slot.specs.Layout.{slotOf};
 ghost use Rattle.slot.specs.Logs.{readLog, writeLog};
 ghost use Rattle.rules.specs.Model.{controller};
 ghost use Rattle.rules.specs.Layout.{cellsIn};
 ghost use Rattle.rules.specs.LogsRight.{loggedRight, readsRight, writesRight};
-ghost use Rattle.rules.specs.AreaRight.{zeros};
 ghost use Rattle.logcheck.specs.Frame.{Framed};
-ghost use Rattle.logcheck.specs.Logged.{Counted, logsRightIn};
+ghost use Rattle.logcheck.specs.Logged.{Index, legalAt, zerosFrom, Counted, slotLogsRight};
 
 pub mod marks;
 
@@ -47,7 +45,7 @@ pub const WRITE: usize = 5;
 
 // A byte as an index.
 pub fn index(x: u8) -> usize
-    ensures { λ r. ⌜ (r ≡ x) × (r < 256) ⌝ }
+    ensures { λ r. ⌜ Index x r ⌝ }
 {
     x as usize
 }
@@ -55,7 +53,7 @@ pub fn index(x: u8) -> usize
 // Whether the word at `at` is legal for the kind. It is read only where the kind asks for it, which joins the loads of its bytes.
 pub fn legal_at(kind: u8, s: &[u8], at: usize) -> bool
     requires { ⌜ at + 4 ≤ length (now s) ⌝ }
-    ensures { λ r. ⌜ r ≡ legalWord kind (be 4 (drop at (now (s .entry)))) ⌝ }
+    ensures { λ r. ⌜ r ≡ legalAt kind (now (s .entry)) at ⌝ }
 {
     if kind == 2 {
         return true;
@@ -72,7 +70,7 @@ pub fn legal_at(kind: u8, s: &[u8], at: usize) -> bool
 // Whether the `count` bytes from `from` on are zero.
 pub fn all_zero(s: &[u8], from: usize, count: usize) -> bool
     requires { ⌜ from + count ≤ length (now s) ⌝ }
-    ensures { λ r. ⌜ r ≡ zeros count (drop from (now (s .entry))) ⌝ }
+    ensures { λ r. ⌜ r ≡ zerosFrom (now (s .entry)) from count ⌝ }
 {
     let mut any: u8 = 0;
     let mut i = 0;
@@ -140,7 +138,7 @@ fn writes_right(s: &[u8], n: usize, t: &[u8]) -> bool
 // Both logs.
 pub fn logs_right(s: &[u8], n: usize, t: &[u8]) -> bool
     requires { ⌜ (Framed n (now s)) × (Counted (now t)) ⌝ }
-    ensures { λ r. ⌜ r ≡ logsRightIn (now (s .entry)) (slotOf 8 (now (t .entry))) ⌝ }
+    ensures { λ r. ⌜ r ≡ slotLogsRight (now (s .entry)) (now (t .entry)) ⌝ }
 {
     reads_right(s, n, t) && writes_right(s, n, t)
 }

@@ -3,9 +3,8 @@ ghost use mathlib.Core.Bool.{true};
 ghost use mathlib.Core.Path.{_≡_};
 ghost use Prim.Native.Nat.{_≤_};
 ghost use lib.ListN.{length};
-ghost use Rattle.slot.specs.Layout.{readCapacity, slotOf};
-ghost use Rattle.rules.specs.AreaRight.{unusedZero};
-ghost use Rattle.logcheck.specs.Logged.{Counted};
+ghost use Rattle.slot.specs.Layout.{readCapacity};
+ghost use Rattle.logcheck.specs.Logged.{Counted, slotUnusedZero};
 ghost use Rattle.logcheck.specs.Marked.{MarksGathered, markedRight};
 use crate::FLAG_AT;
 use crate::PHASE_AT;
@@ -22,7 +21,7 @@ use slot::SlotRecord;
 // Unused entries all zero: they are the last ones of each log, so one run of bytes.
 pub fn unused_zero(t: &[u8]) -> bool
     requires { ⌜ Counted (now t) ⌝ }
-    ensures { λ r. ⌜ r ≡ unusedZero 8 (now (t .entry)) (slotOf 8 (now (t .entry))) ⌝ }
+    ensures { λ r. ⌜ r ≡ slotUnusedZero (now (t .entry)) ⌝ }
 {
     let reads = index(t[READ_COUNT_AT]);
     let writes = index(t[WRITE_COUNT_AT]);
@@ -56,7 +55,7 @@ fn marks_of(t: &[u8]) -> u8
 
 // Flags and marks 0 or 1; no mark before phase 3; no flag without a mark; in phase 4 no mark without the flag.
 pub fn marked_right(t: &[u8]) -> bool
-    requires { ⌜ (Counted (now t)) × (unusedZero 8 (now t) (slotOf 8 (now t)) ≡ true) ⌝ }
+    requires { ⌜ (Counted (now t)) × (slotUnusedZero (now t) ≡ true) ⌝ }
     ensures { λ r. ⌜ r ≡ markedRight (now (t .entry)) ⌝ }
 {
     let marks = marks_of(t);

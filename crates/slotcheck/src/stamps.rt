@@ -4,12 +4,9 @@ ghost use Prim.Native.Nat.{_<_};
 ghost use lib.ListN.{getD};
 ghost use Rattle.wire.specs.Table.{tab};
 ghost use Rattle.slot.specs.Logic.{every};
-ghost use Rattle.rules.specs.Model.{controller};
-ghost use Rattle.rules.specs.Layout.{recordsIn};
 ghost use Rattle.rules.specs.LogsRight.{stampsApart};
-ghost use Rattle.rules.specs.AreaRight.{commitsApart};
 ghost use Rattle.logcheck.specs.Frame.{Framed};
-ghost use Rattle.slotcheck.specs.SlotParts.{stampIn};
+ghost use Rattle.slotcheck.specs.SlotParts.{stampIn, stampsRight};
 use crate::SLOTS;
 use logcheck::CELL;
 use logcheck::CELLS_AT;
@@ -55,7 +52,7 @@ fn stamp_apart(stamps: [u64; 8], j: usize) -> bool
 // Commit stamps apart.
 pub fn stamps_apart(s: &[u8], n: usize) -> bool
     requires { ⌜ Framed n (now s) ⌝ }
-    ensures { λ r. ⌜ r ≡ commitsApart (recordsIn controller (now (s .entry))) ⌝ }
+    ensures { λ r. ⌜ r ≡ stampsRight (now (s .entry)) ⌝ }
 {
     let stamps = stamps_of(s, n);
     let mut j = 0;
