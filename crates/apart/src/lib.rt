@@ -3,7 +3,9 @@ ghost use mathlib.Core.Path.{_≡_};
 ghost use Prim.Native.Nat.{_<_};
 ghost use lib.ListN.{drop};
 ghost use Rattle.wire.specs.Field.{be};
-ghost use Rattle.apart.specs.Apart.{byteAt, wordOf, describedRight, stepsRight, descriptionsLegal, takenApart};
+ghost use Rattle.apart.specs.Apart.{byteAt, wordOf, describedRight, stepsRight, takenApart};
+use fresh::DESCRIPTION;
+use fresh::MOST_CELLS;
 
 // A sheet's parts: how many cells it describes, where its first step stands, and how many steps it has.
 pub enum Sheet {
@@ -22,14 +24,10 @@ const DESCRIBED: usize = 1;
 
 pub const DESCRIPTIONS: usize = 3;
 
-// The bytes of a sheet beside its descriptions and steps.
-const BESIDE: usize = 5;
-
-pub const DESCRIPTION: usize = 5;
+// The bytes of a sheet around its descriptions and steps.
+const AROUND: usize = 5;
 
 pub const STEP: usize = 8;
-
-const MOST_CELLS: usize = 64;
 
 const MOST_STEPS: usize = 4096;
 
@@ -85,22 +83,6 @@ fn steps_right(size: usize) -> bool
     n <= MOST_STEPS
 }
 
-// Whether all descriptions are legal.
-fn all_legal(ds: &[u8]) -> bool
-    ensures { λ r. ⌜ r ≡ descriptionsLegal (now (ds .entry)) ⌝ }
-{
-    let n = ds.len() / DESCRIPTION;
-    let mut k = 0;
-    while k < n {
-        let at = DESCRIPTION * k;
-        if !value::legal(ds[at], wire::get(ds, at + 1, 4) as u32) {
-            return false;
-        }
-        k += 1;
-    }
-    true
-}
-
 // Takes a sheet apart.
 pub fn take_apart(s: &[u8]) -> Sheet
     ensures { λ r. ⌜ r ≡ takenApart (now (s .entry)) ⌝ }
@@ -110,7 +92,7 @@ pub fn take_apart(s: &[u8]) -> Sheet
     if byte(s, 0) != VERSION {
         return Sheet::Bad;
     }
-    if s.len() != BESIDE + described + stepped {
+    if s.len() != AROUND + described + stepped {
         return Sheet::Bad;
     }
     if !described_right(described) {
@@ -119,12 +101,12 @@ pub fn take_apart(s: &[u8]) -> Sheet
     if !steps_right(stepped) {
         return Sheet::Bad;
     }
-    if !all_legal(&s[DESCRIPTIONS..DESCRIPTIONS + described]) {
+    if !fresh::all_legal(&s[DESCRIPTIONS..DESCRIPTIONS + described]) {
         return Sheet::Bad;
     }
     Sheet::Good {
         cells: described / DESCRIPTION,
-        first: BESIDE + described,
+        first: AROUND + described,
         steps: stepped / STEP,
     }
 }

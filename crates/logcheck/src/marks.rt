@@ -8,15 +8,15 @@ ghost use Rattle.logcheck.specs.Logged.{Counted, slotUnusedZero};
 ghost use Rattle.logcheck.specs.Marked.{MarksGathered, markedRight};
 use crate::FLAG_AT;
 use crate::PHASE_AT;
-use crate::READ;
 use crate::READ_COUNT_AT;
 use crate::READS_AT;
-use crate::WRITE;
 use crate::WRITE_COUNT_AT;
 use crate::WRITES_AT;
 use crate::all_zero;
 use crate::index;
+use slot::ReadEntry;
 use slot::SlotRecord;
+use slot::WriteEntry;
 
 // Unused entries all zero: they are the last ones of each log, so one run of bytes.
 pub fn unused_zero(t: &[u8]) -> bool
@@ -27,15 +27,15 @@ pub fn unused_zero(t: &[u8]) -> bool
     let writes = index(t[WRITE_COUNT_AT]);
     if !all_zero(
         t,
-        READS_AT + READ * reads,
-        READ * (SlotRecord::READS - reads),
+        READS_AT + ReadEntry::SIZE * reads,
+        ReadEntry::SIZE * (SlotRecord::READS - reads),
     ) {
         return false;
     }
     all_zero(
         t,
-        WRITES_AT + WRITE * writes,
-        WRITE * (SlotRecord::WRITES - writes),
+        WRITES_AT + WriteEntry::SIZE * writes,
+        WriteEntry::SIZE * (SlotRecord::WRITES - writes),
     )
 }
 
@@ -47,7 +47,7 @@ fn marks_of(t: &[u8]) -> u8
     let mut any: u8 = 0;
     let mut i = 0;
     while i < SlotRecord::READS {
-        any |= t[READS_AT + READ * i + 1];
+        any |= t[READS_AT + ReadEntry::SIZE * i + 1];
         i += 1;
     }
     any
