@@ -10,7 +10,8 @@ use Rattle.wire.specs.Field.{be}
 use Rattle.slot.proofs.Logic.{and-left, and-right}
 use Rattle.rules.specs.LogsRight.{cellCountRight}
 use Rattle.apart.specs.declared.Sheet.the-variants.{Good, Bad}
-use Rattle.apart.specs.Apart.{describedLength, stepsLength, firstStep, descriptions, cellsOf, stepsOf, wholeSheet, describedRight, stepsRight, descriptionsLegal, goodSheet, takenApart}
+use Rattle.fresh.specs.Parts.{describedLegal}
+use Rattle.apart.specs.Apart.{describedLength, stepsLength, firstStep, descriptions, cellsOf, stepsOf, wholeSheet, describedRight, stepsRight, goodSheet, takenApart}
 
 module _ (s : List ℕ) where
   pub bad : goodSheet s ≡ false → Bad ≡ takenApart s
@@ -36,10 +37,10 @@ module _ (s : List ℕ) where
     pub steps-test : {r b : Bool} → r ≡ stepsRight l → r ≡ b → stepsRight (stepsLength s) ≡ b
     steps-test p q = ap stepsRight (sym lengths) ∙ sym p ∙ q
 
-    pub legal-test : {r b : Bool} → r ≡ descriptionsLegal (take (3 + d - 3) (drop 3 s)) → r ≡ b → descriptionsLegal (descriptions s) ≡ b
+    pub legal-test : {r b : Bool} → r ≡ describedLegal (take (3 + d - 3) (drop 3 s)) → r ≡ b → describedLegal (descriptions s) ≡ b
     legal-test p q =
         let same : 3 + d - 3 ≡ describedLength s = omega arith in
-        ap (λ (n : ℕ). descriptionsLegal (take n (drop 3 s))) (sym same) ∙ sym p ∙ q
+        ap (λ (n : ℕ). describedLegal (take n (drop 3 s))) (sym same) ∙ sym p ∙ q
 
     pub good : goodSheet s ≡ true → Good (d / 5) (5 + d) (l / 8) ≡ takenApart s
     unfolding takenApart

@@ -4,15 +4,21 @@ use mathlib.Core.List.{List}
 use Prim.Native.Nat.{ℕ, _+_, _*_, _/_}
 use lib.Dec.{eqb, leb}
 use lib.ListN.{length, getD, take, drop}
-use Rattle.value.specs.Legal.{legalWord}
-use Rattle.wire.specs.Field.{be}
-use Rattle.slot.specs.Logic.{_and_, all}
+use Rattle.wire.specs.Field.{be, fieldAt}
+use Rattle.slot.specs.Logic.{_and_}
 use Rattle.rules.specs.Model.{controller}
 use Rattle.rules.specs.LogsRight.{cellCountRight}
-use Rattle.rules.specs.Area.{descriptionSize, describedCells}
-use Rattle.rules.specs.declared.Cell.{Cell}
+use Rattle.rules.specs.Area.{descriptionSize}
+use Rattle.fresh.specs.Parts.{describedLegal}
 use Rattle.apart.specs.declared.Sheet.{Sheet}
 use Rattle.apart.specs.declared.Sheet.the-variants.{Good, Bad}
+
+-- the byte at `at`, 0 past the end, and the word of a step
+abbrev pub byteAt : List ℕ → ℕ → ℕ
+byteAt s at = getD s at 0
+
+abbrev pub wordOf : List ℕ → ℕ
+wordOf s = fieldAt s 4 4
 
 -- steps of 8 bytes, at most 4,096
 abbrev pub stepSize : ℕ
@@ -23,7 +29,7 @@ mostSteps = 4096
 
 -- the version, and the two lengths
 abbrev pub versionOf : List ℕ → ℕ
-versionOf s = getD s 0 0
+versionOf s = byteAt s 0
 
 abbrev pub describedLength : List ℕ → ℕ
 describedLength s = be 2 (drop 1 s)
@@ -59,10 +65,6 @@ describedRight size = eqb (descriptionSize * (size / descriptionSize)) size and 
 unfoldable pub stepsRight : ℕ → Bool
 stepsRight size = eqb (stepSize * (size / stepSize)) size and leb (size / stepSize) mostSteps
 
--- no description is illegal
-unfoldable pub descriptionsLegal : List ℕ → Bool
-descriptionsLegal ds = all (λ (x : Cell). legalWord (x .kind) (x .word)) (describedCells ds)
-
 -- If the version is not 1, a byte is missing or left over, a length is no multiple of 5 or 8, n is not 1 to 64, a description is illegal, or there
 -- are too many steps, the sheet is bad.
 unfoldable pub goodSheet : List ℕ → Bool
@@ -71,7 +73,7 @@ goodSheet s =
     and wholeSheet s
     and describedRight (describedLength s)
     and stepsRight (stepsLength s)
-    and descriptionsLegal (descriptions s)
+    and describedLegal (descriptions s)
 
 unfoldable pub takenApart : List ℕ → Sheet
 takenApart s = cond (goodSheet s) (Good (cellsOf s) (firstStep s) (stepsOf s)) Bad

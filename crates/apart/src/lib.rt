@@ -1,9 +1,11 @@
 // A step sheet taken apart. Any bytes are taken.
 ghost use mathlib.Core.Path.{_≡_};
 ghost use Prim.Native.Nat.{_<_};
-ghost use lib.ListN.{drop, getD};
-ghost use Rattle.wire.specs.Field.{be, fieldAt};
-ghost use Rattle.apart.specs.Apart.{describedRight, stepsRight, descriptionsLegal, takenApart};
+ghost use lib.ListN.{drop};
+ghost use Rattle.wire.specs.Field.{be};
+ghost use Rattle.apart.specs.Apart.{byteAt, wordOf, describedRight, stepsRight, takenApart};
+use fresh::DESCRIPTION;
+use fresh::MOST_CELLS;
 
 // A sheet's parts: how many cells it describes, where its first step stands, and how many steps it has.
 pub enum Sheet {
@@ -22,20 +24,16 @@ const DESCRIBED: usize = 1;
 
 pub const DESCRIPTIONS: usize = 3;
 
-// The bytes of a sheet beside its descriptions and steps.
-const BESIDE: usize = 5;
-
-pub const DESCRIPTION: usize = 5;
+// The bytes of a sheet around its descriptions and steps.
+const AROUND: usize = 5;
 
 pub const STEP: usize = 8;
-
-const MOST_CELLS: usize = 64;
 
 const MOST_STEPS: usize = 4096;
 
 // The byte at `at`; past the end, 0, so that nothing is asked of a sheet before it is known to be whole.
 pub fn byte(s: &[u8], at: usize) -> u8
-    ensures { λ r. ⌜ r ≡ getD (now (s .entry)) at 0 ⌝ }
+    ensures { λ r. ⌜ r ≡ byteAt (now (s .entry)) at ⌝ }
 {
     if at < s.len() {
         return s[at];
@@ -55,7 +53,7 @@ fn pair(s: &[u8], at: usize) -> usize
 
 // The number in the four bytes from 4 on.
 pub fn word(s: &[u8]) -> u32
-    ensures { λ r. ⌜ r ≡ fieldAt (now (s .entry)) 4 4 ⌝ }
+    ensures { λ r. ⌜ r ≡ wordOf (now (s .entry)) ⌝ }
 {
     (pair(s, 4) * 65536 + pair(s, 6)) as u32
 }
@@ -85,22 +83,6 @@ fn steps_right(size: usize) -> bool
     n <= MOST_STEPS
 }
 
-// Whether all descriptions are legal.
-fn all_legal(ds: &[u8]) -> bool
-    ensures { λ r. ⌜ r ≡ descriptionsLegal (now (ds .entry)) ⌝ }
-{
-    let n = ds.len() / DESCRIPTION;
-    let mut k = 0;
-    while k < n {
-        let at = DESCRIPTION * k;
-        if !value::legal(ds[at], wire::get(ds, at + 1, 4) as u32) {
-            return false;
-        }
-        k += 1;
-    }
-    true
-}
-
 // Takes a sheet apart.
 pub fn take_apart(s: &[u8]) -> Sheet
     ensures { λ r. ⌜ r ≡ takenApart (now (s .entry)) ⌝ }
@@ -110,7 +92,7 @@ pub fn take_apart(s: &[u8]) -> Sheet
     if byte(s, 0) != VERSION {
         return Sheet::Bad;
     }
-    if s.len() != BESIDE + described + stepped {
+    if s.len() != AROUND + described + stepped {
         return Sheet::Bad;
     }
     if !described_right(described) {
@@ -119,12 +101,12 @@ pub fn take_apart(s: &[u8]) -> Sheet
     if !steps_right(stepped) {
         return Sheet::Bad;
     }
-    if !all_legal(&s[DESCRIPTIONS..DESCRIPTIONS + described]) {
+    if !fresh::all_legal(&s[DESCRIPTIONS..DESCRIPTIONS + described]) {
         return Sheet::Bad;
     }
     Sheet::Good {
         cells: described / DESCRIPTION,
-        first: BESIDE + described,
+        first: AROUND + described,
         steps: stepped / STEP,
     }
 }

@@ -61,12 +61,12 @@ pub fn decode(step: u8, cell: u8, kind: u8, word: u32) -> Decoded
     match step {
         1 => Decoded::Made(Step::Begin),
         2 => Decoded::Made(Step::Read(cell)),
-        3 => write_of(cell, kind, word),
+        3 => decoded_write(cell, kind, word),
         4 => Decoded::Made(Step::Close),
         5 => Decoded::Made(Step::Lock),
         6 => Decoded::Made(Step::Enter),
         7 => Decoded::Made(Step::Reread(cell)),
-        8 => update_of(cell, kind, word),
+        8 => decoded_update(cell, kind, word),
         9 => Decoded::Made(Step::Ask(cell)),
         10 => Decoded::Made(Step::Reload),
         11 => Decoded::Made(Step::Ignore),
@@ -78,7 +78,7 @@ pub fn decode(step: u8, cell: u8, kind: u8, word: u32) -> Decoded
 }
 
 // A write holds a value, so kind and word are taken apart here, and the cell is kept where they have none.
-fn write_of(cell: u8, kind: u8, word: u32) -> Decoded
+fn decoded_write(cell: u8, kind: u8, word: u32) -> Decoded
     ensures { λ r. ⌜ r ≡ aWrite cell (parsed kind word) ⌝ }
 {
     let Parsed::Legal(v) = value::from_word(kind, word) else {
@@ -88,7 +88,7 @@ fn write_of(cell: u8, kind: u8, word: u32) -> Decoded
 }
 
 // The same for an update.
-fn update_of(cell: u8, kind: u8, word: u32) -> Decoded
+fn decoded_update(cell: u8, kind: u8, word: u32) -> Decoded
     ensures { λ r. ⌜ r ≡ anUpdate cell (parsed kind word) ⌝ }
 {
     let Parsed::Legal(v) = value::from_word(kind, word) else {

@@ -2,19 +2,21 @@
 ghost use mathlib.Core.Path.{_≡_};
 ghost use Prim.Native.Nat.{_<_};
 ghost use Rattle.rules.specs.Model.{controller};
-ghost use Rattle.rules.specs.Layout.{stateOf};
 ghost use Rattle.rules.specs.Step as rule;
-ghost use Rattle.area.specs.Good.{Good};
+ghost use Rattle.area.specs.Good.{Good, stateIn};
 ghost use Rattle.ways.specs.Did.{Did};
 ghost use Rattle.dispatch.specs.Without.{withoutSlot};
 use call::Decoded;
 use call::Reply;
 use call::Step;
 
+// The number of slots.
+const SLOTS: u8 = area::SLOTS as u8;
+
 // A step of slot `i`, counted from 0, by its row.
 fn row(s: &mut [u8], i: u8, step: Step) -> Reply
     requires { ⌜ Good (now s) × (i < 8) ⌝ }
-    ensures { λ r. ⌜ Did (rule.row controller (stateOf controller (now (s .entry))) i step) (now (s .entry)) r (now (s .exit)) ⌝ }
+    ensures { λ r. ⌜ Did (rule.row controller (stateIn (now (s .entry))) i step) (now (s .entry)) r (now (s .exit)) ⌝ }
 {
     match step {
         Step::Begin => opening::begin(s, i),
@@ -47,9 +49,9 @@ fn without_slot(d: Decoded) -> Reply
 // What a decoded call makes. Wrong step and slot numbers get codes; a write or an update without a value gets 6 in its place.
 pub fn step(s: &mut [u8], slot: u8, d: Decoded) -> Reply
     requires { ⌜ Good (now s) ⌝ }
-    ensures { λ r. ⌜ Did (rule.stepOf controller (stateOf controller (now (s .entry))) slot d) (now (s .entry)) r (now (s .exit)) ⌝ }
+    ensures { λ r. ⌜ Did (rule.stepOf controller (stateIn (now (s .entry))) slot d) (now (s .entry)) r (now (s .exit)) ⌝ }
 {
-    if slot == 0 || 8 < slot {
+    if slot == 0 || SLOTS < slot {
         return without_slot(d);
     }
     let i = slot - 1;

@@ -18,10 +18,10 @@ use area::STAMP;
 use rules::Cell;
 
 // At most so many cells.
-const MOST_CELLS: usize = 64;
+pub const MOST_CELLS: usize = 64;
 
 // A description's bytes: kind (1), word (4).
-const DESCRIPTION: usize = 5;
+pub const DESCRIPTION: usize = 5;
 
 // Whether the descriptions are 5 × n bytes with n from 1 to 64, and the area has the right length.
 fn lengths_fit(s: &[u8], ds: &[u8]) -> bool
@@ -54,11 +54,11 @@ fn described(ds: &[u8], k: usize) -> Cell
     }
 }
 
-// Whether all `n` descriptions are legal.
-fn all_legal(ds: &[u8], n: usize) -> bool
-    requires { ⌜ n ≡ describedCount (now ds) ⌝ }
+// Whether all descriptions are legal.
+pub fn all_legal(ds: &[u8]) -> bool
     ensures { λ r. ⌜ r ≡ describedLegal (now (ds .entry)) ⌝ }
 {
+    let n = ds.len() / DESCRIPTION;
     let mut k = 0;
     while k < n {
         let x = described(ds, k);
@@ -123,10 +123,9 @@ pub fn lay_out(s: &mut [u8], ds: &[u8]) -> u8
     if !lengths_fit(s, ds) {
         return 1;
     }
-    let n = ds.len() / DESCRIPTION;
-    if !all_legal(ds, n) {
+    if !all_legal(ds) {
         return 6;
     }
-    put_fresh(s, ds, n);
+    put_fresh(s, ds, ds.len() / DESCRIPTION);
     0
 }

@@ -9,4 +9,4 @@ use Rattle.rules.specs.Layout.{countIn}
 pub record Framed (n : ℕ) (a : List ℕ) : Type 0 where
   pub count : countIn a ≡ n
   pub size : length a ≡ 1590 + 14 * n
-  pub few : n ≤ 64
+  pub many : n ≤ 64

@@ -1,28 +1,29 @@
 // Whether the logs of a slot are right: cells below n, words legal, no cell twice, the write log ascending; unused entries zero; the marks.
 ghost use mathlib.Core.Path.{_≡_};
-ghost use Prim.Native.Nat.{_+_, _≤_, _<_};
+ghost use Prim.Native.Nat.{_+_, _≤_};
 ghost use lib.ListN.{length, drop};
 ghost use Rattle.wire.specs.Field.{be};
-ghost use Rattle.value.specs.Legal.{legalWord};
 ghost use Rattle.slot.specs.Layout.{slotOf};
 ghost use Rattle.slot.specs.Logs.{readLog, writeLog};
 ghost use Rattle.rules.specs.Model.{controller};
 ghost use Rattle.rules.specs.Layout.{cellsIn};
 ghost use Rattle.rules.specs.LogsRight.{loggedRight, readsRight, writesRight};
-ghost use Rattle.rules.specs.AreaRight.{zeros};
 ghost use Rattle.logcheck.specs.Frame.{Framed};
-ghost use Rattle.logcheck.specs.Logged.{Counted, logsRightIn};
+ghost use Rattle.logcheck.specs.Logged.{Index, legalAt, zerosFrom, Counted, slotLogsRight};
+use slot::ReadEntry;
+use slot::SlotRecord;
+use slot::WriteEntry;
 
 pub mod marks;
 
-// Where the cells begin, the bytes of a cell and the bytes of a slot.
-pub const CELLS_AT: usize = 14;
+// The bytes of an area's header, behind which the cells begin, of a cell and of a stamp.
+pub const HEADER: usize = 14;
 
 pub const CELL: usize = 14;
 
-pub const SLOT: usize = 197;
+pub const STAMP: usize = 8;
 
-// Where the parts of a slot stand in it, and the bytes of an entry.
+// Where the parts of a slot stand in it, and its bytes.
 pub const PHASE_AT: usize = 0;
 
 pub const FLAG_AT: usize = 1;
@@ -35,19 +36,17 @@ pub const WRITE_COUNT_AT: usize = 4;
 
 pub const START_AT: usize = 5;
 
-pub const COMMIT_AT: usize = 13;
+pub const COMMIT_AT: usize = START_AT + STAMP;
 
-pub const READS_AT: usize = 21;
+pub const READS_AT: usize = COMMIT_AT + STAMP;
 
-pub const READ: usize = 6;
+pub const WRITES_AT: usize = READS_AT + ReadEntry::SIZE * SlotRecord::READS;
 
-pub const WRITES_AT: usize = 117;
-
-pub const WRITE: usize = 5;
+pub const SLOT: usize = WRITES_AT + WriteEntry::SIZE * SlotRecord::WRITES;
 
 // A byte as an index.
 pub fn index(x: u8) -> usize
-    ensures { λ r. ⌜ (r ≡ x) × (r < 256) ⌝ }
+    ensures { λ r. ⌜ Index x r ⌝ }
 {
     x as usize
 }
@@ -55,7 +54,7 @@ pub fn index(x: u8) -> usize
 // Whether the word at `at` is legal for the kind. It is read only where the kind asks for it, which joins the loads of its bytes.
 pub fn legal_at(kind: u8, s: &[u8], at: usize) -> bool
     requires { ⌜ at + 4 ≤ length (now s) ⌝ }
-    ensures { λ r. ⌜ r ≡ legalWord kind (be 4 (drop at (now (s .entry)))) ⌝ }
+    ensures { λ r. ⌜ r ≡ legalAt kind (now (s .entry)) at ⌝ }
 {
     if kind == 2 {
         return true;
@@ -72,7 +71,7 @@ pub fn legal_at(kind: u8, s: &[u8], at: usize) -> bool
 // Whether the `count` bytes from `from` on are zero.
 pub fn all_zero(s: &[u8], from: usize, count: usize) -> bool
     requires { ⌜ from + count ≤ length (now s) ⌝ }
-    ensures { λ r. ⌜ r ≡ zeros count (drop from (now (s .entry))) ⌝ }
+    ensures { λ r. ⌜ r ≡ zerosFrom (now (s .entry)) from count ⌝ }
 {
     let mut any: u8 = 0;
     let mut i = 0;
@@ -88,7 +87,7 @@ fn logged_right(s: &[u8], n: usize, c: usize, t: &[u8], at: usize) -> bool
     requires { ⌜ (Framed n (now s)) × (at + 4 ≤ length (now t)) ⌝ }
     ensures { λ r. ⌜ r ≡ loggedRight (cellsIn controller (now (s .entry))) c (be 4 (drop at (now (t .entry)))) ⌝ }
 {
-    c < n && legal_at(s[CELLS_AT + CELL * c], t, at)
+    c < n && legal_at(s[HEADER + CELL * c], t, at)
 }
 
 // The read log: cells below n, words legal, no cell twice.
@@ -100,7 +99,7 @@ fn reads_right(s: &[u8], n: usize, t: &[u8]) -> bool
     let mut seen = [0u8; 64];
     let mut i = 0;
     while i < count {
-        let at = READS_AT + READ * i;
+        let at = READS_AT + ReadEntry::SIZE * i;
         let c = index(t[at]);
         if !logged_right(s, n, c, t, at + 2) {
             return false;
@@ -123,7 +122,7 @@ fn writes_right(s: &[u8], n: usize, t: &[u8]) -> bool
     let mut least = 0;
     let mut i = 0;
     while i < count {
-        let at = WRITES_AT + WRITE * i;
+        let at = WRITES_AT + WriteEntry::SIZE * i;
         let c = index(t[at]);
         if c < least {
             return false;
@@ -140,7 +139,7 @@ fn writes_right(s: &[u8], n: usize, t: &[u8]) -> bool
 // Both logs.
 pub fn logs_right(s: &[u8], n: usize, t: &[u8]) -> bool
     requires { ⌜ (Framed n (now s)) × (Counted (now t)) ⌝ }
-    ensures { λ r. ⌜ r ≡ logsRightIn (now (s .entry)) (slotOf 8 (now (t .entry))) ⌝ }
+    ensures { λ r. ⌜ r ≡ slotLogsRight (now (s .entry)) (now (t .entry)) ⌝ }
 {
     reads_right(s, n, t) && writes_right(s, n, t)
 }

@@ -3,40 +3,39 @@ ghost use mathlib.Core.Bool.{true};
 ghost use mathlib.Core.Path.{_≡_};
 ghost use Prim.Native.Nat.{_≤_};
 ghost use lib.ListN.{length};
-ghost use Rattle.slot.specs.Layout.{readCapacity, slotOf};
-ghost use Rattle.rules.specs.AreaRight.{unusedZero};
-ghost use Rattle.logcheck.specs.Logged.{Counted};
+ghost use Rattle.slot.specs.Layout.{readCapacity};
+ghost use Rattle.logcheck.specs.Logged.{Counted, slotUnusedZero};
 ghost use Rattle.logcheck.specs.Marked.{MarksGathered, markedRight};
 use crate::FLAG_AT;
 use crate::PHASE_AT;
-use crate::READ;
 use crate::READ_COUNT_AT;
 use crate::READS_AT;
-use crate::WRITE;
 use crate::WRITE_COUNT_AT;
 use crate::WRITES_AT;
 use crate::all_zero;
 use crate::index;
+use slot::ReadEntry;
 use slot::SlotRecord;
+use slot::WriteEntry;
 
 // Unused entries all zero: they are the last ones of each log, so one run of bytes.
 pub fn unused_zero(t: &[u8]) -> bool
     requires { ⌜ Counted (now t) ⌝ }
-    ensures { λ r. ⌜ r ≡ unusedZero 8 (now (t .entry)) (slotOf 8 (now (t .entry))) ⌝ }
+    ensures { λ r. ⌜ r ≡ slotUnusedZero (now (t .entry)) ⌝ }
 {
     let reads = index(t[READ_COUNT_AT]);
     let writes = index(t[WRITE_COUNT_AT]);
     if !all_zero(
         t,
-        READS_AT + READ * reads,
-        READ * (SlotRecord::READS - reads),
+        READS_AT + ReadEntry::SIZE * reads,
+        ReadEntry::SIZE * (SlotRecord::READS - reads),
     ) {
         return false;
     }
     all_zero(
         t,
-        WRITES_AT + WRITE * writes,
-        WRITE * (SlotRecord::WRITES - writes),
+        WRITES_AT + WriteEntry::SIZE * writes,
+        WriteEntry::SIZE * (SlotRecord::WRITES - writes),
     )
 }
 
@@ -48,7 +47,7 @@ fn marks_of(t: &[u8]) -> u8
     let mut any: u8 = 0;
     let mut i = 0;
     while i < SlotRecord::READS {
-        any |= t[READS_AT + READ * i + 1];
+        any |= t[READS_AT + ReadEntry::SIZE * i + 1];
         i += 1;
     }
     any
@@ -56,7 +55,7 @@ fn marks_of(t: &[u8]) -> u8
 
 // Flags and marks 0 or 1; no mark before phase 3; no flag without a mark; in phase 4 no mark without the flag.
 pub fn marked_right(t: &[u8]) -> bool
-    requires { ⌜ (Counted (now t)) × (unusedZero 8 (now t) (slotOf 8 (now t)) ≡ true) ⌝ }
+    requires { ⌜ (Counted (now t)) × (slotUnusedZero (now t) ≡ true) ⌝ }
     ensures { λ r. ⌜ r ≡ markedRight (now (t .entry)) ⌝ }
 {
     let marks = marks_of(t);

@@ -19,7 +19,8 @@ use Rattle.rules.proofs.Controller.{controller-fits}
 use Rattle.rules.proofs.LaidOut.{laid-right, lays-out}
 use Rattle.rules.proofs.RoundTrip.{pack-right, round-trip}
 use Rattle.history.proofs.Keeps.{keeps}
-use Rattle.apart.specs.Apart.{describedLength, descriptions, descriptionsLegal, goodSheet}
+use Rattle.fresh.specs.Parts.{describedLegal}
+use Rattle.apart.specs.Apart.{describedLength, descriptions, goodSheet}
 use Rattle.sheet.specs.Output.{callAt, areaAfter, blank, firstArea}
 use Rattle.apart.proofs.Apart.{GoodParts}
 
@@ -51,12 +52,12 @@ module _ {s : List ℕ} {cells first steps : ℕ} (good : GoodParts s cells firs
       and-intro _ _ (eq-eqb _ _ five)
       (and-intro _ _ (rw n (and-intro _ _ (le-leb 1 cells (good .few)) (le-leb cells 64 (good .many)))) (rw n (eq-eqb _ _ size)))
 
-  legal : descriptionsLegal (descriptions s) ≡ true
+  legal : describedLegal (descriptions s) ≡ true
   unfolding goodSheet
   legal = and-right _ _ (and-right _ _ (and-right _ _ (and-right _ _ (good .right))))
 
   accepted : (a : List ℕ) → length a ≡ 1590 + 14 * cells → layOut controller a (descriptions s) .code ≡ 0
-  unfolding layOut descriptionsLegal
+  unfolding layOut
   accepted a long = rw (fit a long, legal)
 
   zeros : length (blank s) ≡ 1590 + 14 * cells

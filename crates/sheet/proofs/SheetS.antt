@@ -7,12 +7,12 @@ use Rattle.rules.specs.Area.{describedCell, describedCells}
 use Rattle.rules.proofs.Open.{computed}
 use Rattle.line.specs.Number.{digit, digits}
 use Rattle.line.specs.Line.{replyLine, cellLine, clockLine}
-use Rattle.apart.specs.Apart.{wholeSheet, describedRight, stepsRight, descriptionsLegal, goodSheet}
+use Rattle.apart.specs.Apart.{wholeSheet, describedRight, stepsRight, goodSheet}
 use Rattle.sheet.specs.Output.{callOf}
 use Rattle.sheet.specs.States.{stateAfter, stateLine, endLines}
 use Rattle.sheet.specs.SheetS.{sheetS, SheetS}
 use Rattle.sheet.proofs.States.{on-states}
 
 pub sheet-s : SheetS
-unfolding computed be all cellCountRight describedCell describedCells digit digits replyLine cellLine clockLine wholeSheet describedRight stepsRight descriptionsLegal goodSheet callOf stateAfter stateLine endLines
+unfolding computed be all cellCountRight describedCell describedCells digit digits replyLine cellLine clockLine wholeSheet describedRight stepsRight goodSheet callOf stateAfter stateLine endLines
 sheet-s = on-states sheetS refl ∙ refl

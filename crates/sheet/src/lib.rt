@@ -5,6 +5,10 @@ ghost use Rattle.sheet.specs.Output.{callOf};
 ghost use Rattle.sheet.specs.Parts.{stateAdded, StepsMade, PartsRun};
 ghost use Rattle.sheet.specs.Whole.{SheetRun};
 use apart::Sheet;
+use area::CELL;
+use area::CLOCK;
+use area::COUNT;
+use area::HEADER;
 
 // How many bytes of output were written, or that the area or the buffer is too short.
 pub enum Ran {
@@ -12,16 +16,8 @@ pub enum Ran {
     Short,
 }
 
-// In an area: the number of cells and the clock, the bytes of its header, of a cell and of all slots.
-const COUNT: usize = 5;
-
-const CLOCK: usize = 6;
-
-const HEADER: usize = 14;
-
-const CELL: usize = 14;
-
-const SLOTS: usize = 1576;
+// The bytes of all slots of an area.
+const ALL_SLOTS: usize = area::SLOT * area::SLOTS;
 
 // The longest area, and room for the longest output: a step's line has at most 19 bytes, a cell's 46, the clock's 27.
 pub const MOST_AREA: usize = 2486;
@@ -110,9 +106,9 @@ pub fn run_sheet(sheet: &[u8], area: &mut [u8], out: &mut [u8]) -> Ran
     else {
         return Ran::Written(line::put_bytes(out, 0, b"bad sheet\n").end_or(0));
     };
-    let described = apart::DESCRIPTIONS + apart::DESCRIPTION * cells;
+    let described = apart::DESCRIPTIONS + fresh::DESCRIPTION * cells;
     let stepped = first + apart::STEP * steps;
-    let length = HEADER + CELL * cells + SLOTS;
+    let length = HEADER + CELL * cells + ALL_SLOTS;
     Ran::Written(run_parts(
         &sheet[apart::DESCRIPTIONS..described],
         &sheet[first..stepped],

@@ -1,4 +1,4 @@
--- Each public function's contract leaves one answer: it says that the answer, or the slice at exit, is one value.
+-- Each public function's contract leaves one answer: it says that the answer is one value.
 use mathlib.Core.Bool.{Bool}
 use mathlib.Core.Path.{_≡_}
 use mathlib.Core.List.{List}

@@ -5,9 +5,8 @@ use mathlib.Core.Path.{_≡_}
 use Prim.Native.Nat.{ℕ}
 use Rattle.wire.proofs.Unique.{unique}
 use Rattle.rules.specs.Model.{controller}
-use Rattle.rules.specs.Layout.{slotPlace, recordsIn}
-use Rattle.rules.specs.AreaRight.{commitsApart}
-use Rattle.slotcheck.specs.SlotParts.{slotsRight}
+use Rattle.rules.specs.Layout.{slotPlace}
+use Rattle.slotcheck.specs.SlotParts.{slotsRight, stampsRight}
 
 module _ (a : List ℕ) where
   pub slot-place-unique : (k : ℕ) (t₁ t₂ : List ℕ) → t₁ ≡ slotPlace controller a k → t₂ ≡ slotPlace controller a k → t₁ ≡ t₂
@@ -16,5 +15,5 @@ module _ (a : List ℕ) where
   pub slots-right-unique : (clock : ℕ) (r₁ r₂ : Bool) → r₁ ≡ slotsRight clock a → r₂ ≡ slotsRight clock a → r₁ ≡ r₂
   slots-right-unique clock r₁ r₂ = unique
 
-  pub stamps-apart-unique : (r₁ r₂ : Bool) → r₁ ≡ commitsApart (recordsIn controller a) → r₂ ≡ commitsApart (recordsIn controller a) → r₁ ≡ r₂
+  pub stamps-apart-unique : (r₁ r₂ : Bool) → r₁ ≡ stampsRight a → r₂ ≡ stampsRight a → r₁ ≡ r₂
   stamps-apart-unique r₁ r₂ = unique

@@ -8,8 +8,8 @@ use Rattle.wire.specs.Field.{be}
 use Rattle.slot.specs.declared.SlotRecord.{SlotRecord}
 use Rattle.slot.specs.Logic.{_and_, every}
 use Rattle.rules.specs.Model.{controller}
-use Rattle.rules.specs.Layout.{cellsIn, slotPlace}
-use Rattle.rules.specs.AreaRight.{takenRight, commitRight, slotPlaceRight}
+use Rattle.rules.specs.Layout.{cellsIn, slotPlace, recordsIn}
+use Rattle.rules.specs.AreaRight.{takenRight, commitRight, slotPlaceRight, commitsApart}
 
 -- a slot, of which l are the bytes from its place on, in the area a at a clock
 abbrev pub slotRightIn : List ℕ → ℕ → List ℕ → Bool
@@ -22,6 +22,10 @@ slotsRight clock a = every 8 (λ k. slotRightIn a clock (slotPlace controller a 
 -- the commit stamp of slot k, counted from 0, in an area of n cells
 abbrev pub stampIn : ℕ → List ℕ → ℕ → ℕ
 stampIn n a k = be 8 (drop (14 + 14 * n + 197 * k + 13) a)
+
+-- the commit stamps of the slots, apart from each other
+abbrev pub stampsRight : List ℕ → Bool
+stampsRight a = commitsApart (recordsIn controller a)
 
 -- start, taken and commit stamp
 unfoldable pub numbersRight : ℕ → SlotRecord → Bool

@@ -9,7 +9,7 @@ ghost use Rattle.rules.specs.AreaRight.{busyRight};
 ghost use Rattle.logcheck.specs.Frame.{Framed};
 ghost use Rattle.slotcheck.specs.SlotParts.{slotRightIn, slotsRight};
 use logcheck::CELL;
-use logcheck::CELLS_AT;
+use logcheck::HEADER;
 use logcheck::PHASE_AT;
 use logcheck::SLOT;
 
@@ -59,7 +59,7 @@ pub fn slot_place(s: &[u8], n: usize, k: usize) -> &[u8]
     requires { ⌜ (Framed n (now s)) × (k < 8) ⌝ }
     ensures { λ r. ⌜ now r ≡ slotPlace controller (now (s .entry)) k ⌝ }
 {
-    let at = CELLS_AT + CELL * n + SLOT * k;
+    let at = HEADER + CELL * n + SLOT * k;
     &s[at..]
 }
 

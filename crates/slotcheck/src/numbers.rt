@@ -9,6 +9,7 @@ ghost use Rattle.slotcheck.specs.SlotParts.{numbersRight};
 use logcheck::COMMIT_AT;
 use logcheck::PHASE_AT;
 use logcheck::READ_COUNT_AT;
+use logcheck::STAMP;
 use logcheck::START_AT;
 use logcheck::TAKEN_AT;
 use logcheck::WRITE_COUNT_AT;
@@ -44,7 +45,7 @@ fn commit_right(t: &[u8], start: u64, clock: u64) -> bool
     requires { ⌜ (197 ≤ length (now t)) × (start ≡ be 8 (drop 5 (now t))) ⌝ }
     ensures { λ r. ⌜ r ≡ commitRight clock (slotOf 8 (now (t .entry))) ⌝ }
 {
-    let commit = wire::get(t, COMMIT_AT, 8);
+    let commit = wire::get(t, COMMIT_AT, STAMP);
     let phase = t[PHASE_AT];
     if phase <= 2 {
         return commit == 0;
@@ -57,7 +58,7 @@ pub fn numbers_right(t: &[u8], clock: u64) -> bool
     requires { ⌜ 197 ≤ length (now t) ⌝ }
     ensures { λ r. ⌜ r ≡ numbersRight clock (slotOf 8 (now (t .entry))) ⌝ }
 {
-    let start = wire::get(t, START_AT, 8);
+    let start = wire::get(t, START_AT, STAMP);
     if clock < start {
         return false;
     }

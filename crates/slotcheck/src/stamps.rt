@@ -4,27 +4,25 @@ ghost use Prim.Native.Nat.{_<_};
 ghost use lib.ListN.{getD};
 ghost use Rattle.wire.specs.Table.{tab};
 ghost use Rattle.slot.specs.Logic.{every};
-ghost use Rattle.rules.specs.Model.{controller};
-ghost use Rattle.rules.specs.Layout.{recordsIn};
 ghost use Rattle.rules.specs.LogsRight.{stampsApart};
-ghost use Rattle.rules.specs.AreaRight.{commitsApart};
 ghost use Rattle.logcheck.specs.Frame.{Framed};
-ghost use Rattle.slotcheck.specs.SlotParts.{stampIn};
+ghost use Rattle.slotcheck.specs.SlotParts.{stampIn, stampsRight};
 use crate::SLOTS;
 use logcheck::CELL;
-use logcheck::CELLS_AT;
 use logcheck::COMMIT_AT;
+use logcheck::HEADER;
 use logcheck::SLOT;
+use logcheck::STAMP;
 
 // The slots' commit stamps.
-fn stamps_of(s: &[u8], n: usize) -> [u64; 8]
+fn stamps_of(s: &[u8], n: usize) -> [u64; SLOTS]
     requires { ⌜ Framed n (now s) ⌝ }
     ensures { λ r. ⌜ r ≡ tab 8 (stampIn n (now (s .entry))) ⌝ }
 {
-    let mut stamps = [0u64; 8];
+    let mut stamps = [0u64; SLOTS];
     let mut k = 0;
     while k < SLOTS {
-        stamps[k] = wire::get(s, CELLS_AT + CELL * n + SLOT * k + COMMIT_AT, 8);
+        stamps[k] = wire::get(s, HEADER + CELL * n + SLOT * k + COMMIT_AT, STAMP);
         k += 1;
     }
     stamps
@@ -38,7 +36,7 @@ fn apart(k: u64, l: u64) -> bool
 }
 
 // Whether stamp `j` differs from every earlier one that is not 0.
-fn stamp_apart(stamps: [u64; 8], j: usize) -> bool
+fn stamp_apart(stamps: [u64; SLOTS], j: usize) -> bool
     requires { ⌜ j < 8 ⌝ }
     ensures { λ r. ⌜ r ≡ every j (λ i. stampsApart (getD stamps i 0) (getD stamps j 0)) ⌝ }
 {
@@ -55,7 +53,7 @@ fn stamp_apart(stamps: [u64; 8], j: usize) -> bool
 // Commit stamps apart.
 pub fn stamps_apart(s: &[u8], n: usize) -> bool
     requires { ⌜ Framed n (now s) ⌝ }
-    ensures { λ r. ⌜ r ≡ commitsApart (recordsIn controller (now (s .entry))) ⌝ }
+    ensures { λ r. ⌜ r ≡ stampsRight (now (s .entry)) ⌝ }
 {
     let stamps = stamps_of(s, n);
     let mut j = 0;

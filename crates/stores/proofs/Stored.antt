@@ -20,7 +20,7 @@ use Rattle.rules.specs.Layout.{lay, view, pack}
 use Rattle.rules.specs.declared.Cell.{Cell}
 use Rattle.rules.proofs.Freed.{freedFrom}
 use Rattle.rules.proofs.Stores.{pack-slot, holder-packed, pack-holder}
-use Rattle.stores.specs.Stores.{cleared}
+use Rattle.stores.specs.Stores.{holderFreed}
 
 -- a slot's record put at its place among n cells
 pub slot-stored : (S : State) (n i : ℕ) (v : SlotRecord) (l k : List ℕ) (at : ℕ)
@@ -71,9 +71,9 @@ module _ (S : State) (n i : ℕ) (l : List ℕ) (at : ℕ) (slots : length (S .s
 
 -- the byte of cell c's holder cleared where it is slot i's
 pub cell-freed : (S : State) (i c : ℕ) → c < cellCount S
-    → cleared (pack controller S) (cellOffset controller c + 1) (suc i)
+    → holderFreed (pack controller S) (cellOffset controller c + 1) (suc i)
     ≡ pack controller (record { clock = S .clock; cells = set (S .cells) c (freedFrom i (cellAt S c)); slots = S .slots })
-unfolding cleared
+unfolding holderFreed
 cell-freed S i c h = rw (holder-packed controller S c h) (by (eqb (cellAt S c .holder) (suc i)))
   where
     by : (b : Bool)

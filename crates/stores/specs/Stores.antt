@@ -50,5 +50,5 @@ abbrev pub freedCells : ℕ → State → State
 freedCells i S = record { clock = S .clock; cells = freeAll i (S .cells); slots = S .slots }
 
 -- the byte at `at` cleared if it is `holder`
-unfoldable pub cleared : List ℕ → ℕ → ℕ → List ℕ
-cleared l at holder = cond (eqb (getD l at 0) holder) (set l at 0) l
+unfoldable pub holderFreed : List ℕ → ℕ → ℕ → List ℕ
+holderFreed l at holder = cond (eqb (getD l at 0) holder) (set l at 0) l

@@ -17,7 +17,7 @@ ghost use Rattle.stores.specs.Stores.{
   storedFreed,
   cellPut,
   freedCells,
-  cleared,
+  holderFreed,
 };
 use area::CLOCK;
 use area::COUNT;
@@ -96,9 +96,9 @@ pub fn store_read(s: &mut [u8], i: u8, v: SlotRecord)
 }
 
 // Clears the byte at `at` if it is `holder`.
-fn clear(s: &mut [u8], at: usize, holder: u8)
+fn free(s: &mut [u8], at: usize, holder: u8)
     requires { ⌜ at < length (now s) ⌝ }
-    ensures { λ r. ⌜ now (s .exit) ≡ cleared (now (s .entry)) at holder ⌝ }
+    ensures { λ r. ⌜ now (s .exit) ≡ holderFreed (now (s .entry)) at holder ⌝ }
 {
     if s[at] == holder {
         s[at] = 0;
@@ -113,7 +113,7 @@ fn free_cells(s: &mut [u8], i: u8)
     let n = s[COUNT];
     let mut c = 0;
     while c < n {
-        clear(s, area::cell_offset(c) + 1, i + 1);
+        free(s, area::cell_offset(c) + 1, i + 1);
         c += 1;
     }
 }

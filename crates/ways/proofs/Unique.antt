@@ -1,4 +1,4 @@
--- A step's contract leaves one reply and one area after it: so for every function of this crate and for the dispatch, which all promise `Did`.
+-- A step's contract leaves one reply and one area after it: so for every step and for the dispatch, which all promise `Did`.
 use mathlib.Core.List.{List}
 use mathlib.Core.Path.{_≡_}
 use Prim.Native.Nat.{ℕ}

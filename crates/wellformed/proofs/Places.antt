@@ -47,11 +47,11 @@ framed n l e p =
     let h = header-places l ∙ p in
     let size : length l ≡ 1590 + 14 * getD l 5 0 = eqb-true _ _ (and-left _ _ h) in
     let few : getD l 5 0 ≤ 64 = leb-true _ _ (and-right _ _ (and-right _ _ (and-right _ _ (and-right _ _ h)))) in
-    record { count = sym e; size = omega arith; few = omega arith }
+    record { count = sym e; size = omega arith; many = omega arith }
 
 -- the count is the header's own
 pub own-frame : {n : ℕ} {l : List ℕ} → Framed n l → Framed (countIn l) l
-own-frame f = record { count = refl; size = omega arith; few = omega arith }
+own-frame f = record { count = refl; size = omega arith; many = omega arith }
 
 pub cell-places : (clock due at : ℕ) (l : List ℕ)
     → (eqb (getD l (at + 1) 0) due and leb (be 8 (drop (at + 6) l)) clock and legalWord (getD l at 0) (be 4 (drop (at + 2) l)))

@@ -4,10 +4,10 @@ use mathlib.Core.List.{List}
 use Prim.Native.Nat.{ℕ}
 use Rattle.slot.specs.Logic.{_and_, all}
 use Rattle.rules.specs.Model.{controller}
-use Rattle.rules.specs.Layout.{countIn, cellsIn, recordsIn}
-use Rattle.rules.specs.AreaRight.{lengthsAgree, versionRight, commitsApart}
+use Rattle.rules.specs.Layout.{countIn, cellsIn}
+use Rattle.rules.specs.AreaRight.{lengthsAgree, versionRight}
 use Rattle.rules.specs.LogsRight.{cellCountRight, cellRight}
-use Rattle.slotcheck.specs.SlotParts.{slotsRight}
+use Rattle.slotcheck.specs.SlotParts.{slotsRight, stampsRight}
 
 -- the sentences on the header alone
 unfoldable pub headerRight : List ℕ → Bool
@@ -19,4 +19,4 @@ cellsRight clock a = all (cellRight clock) (cellsIn controller a)
 
 -- the sentences on slots and commit stamps
 unfoldable pub partsRight : ℕ → List ℕ → Bool
-partsRight clock a = slotsRight clock a and commitsApart (recordsIn controller a)
+partsRight clock a = slotsRight clock a and stampsRight a

@@ -6,7 +6,7 @@ ghost use Rattle.rules.specs.Layout.{cellOf};
 ghost use Rattle.logcheck.specs.Frame.{Framed};
 ghost use Rattle.wellformed.specs.Claims.{cellDue, cellsDue};
 use logcheck::CELL;
-use logcheck::CELLS_AT;
+use logcheck::HEADER;
 use logcheck::legal_at;
 
 // Whether the cell at `at` is right and held by the slot due to it, 0 for none.
@@ -30,7 +30,7 @@ pub fn cells_right(s: &[u8], n: usize, clock: u64, due: &[u8]) -> bool
 {
     let mut c = 0;
     while c < n {
-        if !cell_right(s, CELLS_AT + CELL * c, clock, due[c]) {
+        if !cell_right(s, HEADER + CELL * c, clock, due[c]) {
             return false;
         }
         c += 1;

@@ -14,13 +14,16 @@ ghost use Rattle.wellformed.specs.AreaParts.{cellsRight};
 ghost use Rattle.wellformed.specs.Claims.{inPart, Part, SlotRight, Claimed};
 use crate::cells;
 use logcheck::CELL;
-use logcheck::CELLS_AT;
+use logcheck::HEADER;
 use logcheck::PHASE_AT;
 use logcheck::TAKEN_AT;
-use logcheck::WRITE;
 use logcheck::WRITE_COUNT_AT;
 use logcheck::WRITES_AT;
 use logcheck::index;
+use slot::WriteEntry;
+
+// The number of slots.
+const SLOTS: u8 = slotcheck::SLOTS as u8;
 
 // Whether the slot holds the cells in this part of its write log, each of which is then due to it.
 fn claim_part(s: &[u8], slot: u8, t: &[u8], from: usize, to: usize, due: &mut [u8]) -> bool
@@ -29,8 +32,8 @@ fn claim_part(s: &[u8], slot: u8, t: &[u8], from: usize, to: usize, due: &mut [u
 {
     let mut i = from;
     while i < to {
-        let c = index(t[WRITES_AT + WRITE * i]);
-        if s[CELLS_AT + CELL * c + 1] != slot {
+        let c = index(t[WRITES_AT + WriteEntry::SIZE * i]);
+        if s[HEADER + CELL * c + 1] != slot {
             return false;
         }
         due[c] = slot;
@@ -67,7 +70,7 @@ pub fn cells_held(s: &[u8], n: usize, clock: u64) -> bool
 {
     let mut due = [0u8; 64];
     let mut k: u8 = 0;
-    while k < 8 {
+    while k < SLOTS {
         if !claim(s, k + 1, slotcheck::slot_place(s, n, k as usize), &mut due) {
             return false;
         }

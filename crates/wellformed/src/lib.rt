@@ -6,7 +6,7 @@ ghost use Rattle.rules.specs.AreaRight.{wellFormed};
 ghost use Rattle.logcheck.specs.Frame.{Framed};
 ghost use Rattle.wellformed.specs.AreaParts.{headerRight, partsRight};
 use logcheck::CELL;
-use logcheck::CELLS_AT;
+use logcheck::HEADER;
 use logcheck::SLOT;
 use logcheck::index;
 use slotcheck::SLOTS;
@@ -15,7 +15,7 @@ mod cells;
 mod holders;
 
 // The bytes of an area beside its cells.
-const BESIDE: usize = CELLS_AT + SLOTS * SLOT;
+const BESIDE: usize = HEADER + SLOTS * SLOT;
 
 // n from 1 to 64.
 fn count_right(n: usize) -> bool
@@ -28,7 +28,7 @@ fn count_right(n: usize) -> bool
 fn header_right(s: &[u8]) -> bool
     ensures { λ r. ⌜ r ≡ headerRight (now (s .entry)) ⌝ }
 {
-    if s.len() < CELLS_AT {
+    if s.len() < HEADER {
         return false;
     }
     let n = index(s[5]);

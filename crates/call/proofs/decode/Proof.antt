@@ -6,11 +6,11 @@ use Rattle.call.specs.Decode.{decoded}
 use Rattle.call.proofs.decode.Statement.{statement}
 use Rattle.call.proofs.decode.Tie as tie
 
-write-of-requires : tie.Need-write-of-requires
-write-of-requires c κs = search needs
+decoded-write-requires : tie.Need-decoded-write-requires
+decoded-write-requires c κs = search needs
 
-update-of-requires : tie.Need-update-of-requires
-update-of-requires c κs = search needs
+decoded-update-requires : tie.Need-decoded-update-requires
+decoded-update-requires c κs = search needs
 
 returns : tie.Need-returns
 unfolding decoded
@@ -22,7 +22,7 @@ returns-2 c = rw (c .match .keys2)
 
 returns-3 : tie.Need-returns-3
 unfolding decoded
-returns-3 c = rw (c .before .match .keys3) (c .write-of .ensures)
+returns-3 c = rw (c .before .match .keys3) (c .decoded-write .ensures)
 
 returns-4 : tie.Need-returns-4
 unfolding decoded
@@ -42,7 +42,7 @@ returns-7 c = rw (c .match .keys7)
 
 returns-8 : tie.Need-returns-8
 unfolding decoded
-returns-8 c = rw (c .before .match .keys8) (c .update-of .ensures)
+returns-8 c = rw (c .before .match .keys8) (c .decoded-update .ensures)
 
 returns-9 : tie.Need-returns-9
 unfolding decoded
@@ -75,8 +75,8 @@ pub decode-spec : {M : Type 1} → statement M
 decode-spec =
     tie.close
     (tie.spec
-    write-of-requires
-    update-of-requires
+    decoded-write-requires
+    decoded-update-requires
     returns
     returns-2
     returns-3

@@ -13,7 +13,7 @@ use Rattle.rules.specs.declared.Cell.{Cell}
 use Rattle.rules.proofs.AreaRead.{count-read}
 use Rattle.rules.proofs.Freed.{freedFrom}
 use Rattle.area.specs.Good.{stateIn}
-use Rattle.stores.specs.Stores.{cleared}
+use Rattle.stores.specs.Stores.{holderFreed}
 use Rattle.area.proofs.Good.{good-kept}
 use Rattle.stores.proofs.Sweep.{sweep, sweep-length, sweep-turn, sweep-end}
 use Rattle.stores.proofs.Stored.{cell-freed}
@@ -41,14 +41,14 @@ loop-holds c =
 cell-offset-requires : tie.Need-cell-offset-requires Inv-loop μ-loop
 cell-offset-requires c κs = tt
 
-add-clear : tie.Need-add-clear Inv-loop μ-loop
-add-clear c = omega arith
+add-free : tie.Need-add-free Inv-loop μ-loop
+add-free c = omega arith
 
-add-clear-2 : tie.Need-add-clear-2 Inv-loop μ-loop
-add-clear-2 c = omega arith
+add-free-2 : tie.Need-add-free-2 Inv-loop μ-loop
+add-free-2 c = omega arith
 
-clear-requires : tie.Need-clear-requires Inv-loop μ-loop
-clear-requires c κs = omega arith
+free-requires : tie.Need-free-requires Inv-loop μ-loop
+free-requires c κs = omega arith
 
 add-c : tie.Need-add-c Inv-loop μ-loop
 add-c c = omega arith
@@ -57,7 +57,7 @@ loop-less : tie.Need-loop-less Inv-loop μ-loop
 loop-less c = omega arith
 
 -- a turn frees cell c
-free-next : (S : State) (i c : ℕ) → c < cellCount S → cleared (pack controller (freedTo S i c)) (14 + 14 * c + 1) (i + 1) ≡ pack controller (freedTo S i (c + 1))
+free-next : (S : State) (i c : ℕ) → c < cellCount S → holderFreed (pack controller (freedTo S i c)) (14 + 14 * c + 1) (i + 1) ≡ pack controller (freedTo S i (c + 1))
 free-next S i c h =
     rw (add-one i)
     (cell-freed (freedTo S i c) i c (rw (sweep-length (freedFrom i) noCell (S .cells) c (omega arith)) h)
@@ -69,11 +69,11 @@ loop-again c =
     let cell-offset = let c : tie.After-cell-offset Inv-loop μ-loop = search in c .cell-offset .ensures in
     let start = let c : tie.Start Inv-loop μ-loop = search in c in
     let loop = let c : tie.At-loop Inv-loop μ-loop = search in c .loop in
-    let clear = let c : tie.After-clear Inv-loop μ-loop = search in c .clear in
+    let free = let c : tie.After-free Inv-loop μ-loop = search in c .free in
     let l = start .args .s .now in (
       omega arith,
-      clear .kept .0 ∙ loop .inv .1,
-      clear .ensures ∙ (λ j. cleared (loop .inv .2 j) (cell-offset j + 1) (start .args .i + 1))
+      free .kept .0 ∙ loop .inv .1,
+      free .ensures ∙ (λ j. holderFreed (loop .inv .2 j) (cell-offset j + 1) (start .args .i + 1))
           ∙ free-next (stateIn l) (start .args .i) (loop .c) (rw (count-read controller l) (omega arith)),
     )
 
@@ -98,9 +98,9 @@ free-cells-spec =
     slice-read-n
     loop-holds
     cell-offset-requires
-    add-clear
-    add-clear-2
-    clear-requires
+    add-free
+    add-free-2
+    free-requires
     add-c
     loop-less
     loop-again

@@ -1,7 +1,7 @@
 -- What `value::from_word` ensures, in each of its two cases.
 use borrow.Author.Needs.{needs}
-use Rattle.call.proofs.write_of.Statement.{statement}
-use Rattle.call.proofs.write_of.Tie as tie
+use Rattle.call.proofs.decoded_write.Statement.{statement}
+use Rattle.call.proofs.decoded_write.Tie as tie
 
 from-word-requires : tie.Need-from-word-requires
 from-word-requires c κs = search needs
@@ -23,5 +23,5 @@ returns-2 c =
     let v = let c : tie.After-v = search in c .v .given in
     rw (← from-word, v .1)
 
-pub write-of-spec : {M : Type 1} → statement M
-write-of-spec = tie.close (tie.spec from-word-requires enum-known-v enum-told returns returns-2)
+pub decoded-write-spec : {M : Type 1} → statement M
+decoded-write-spec = tie.close (tie.spec from-word-requires enum-known-v enum-told returns returns-2)
