@@ -97,6 +97,9 @@ pub record ShutOut : Type 0 where
   pub changingNothing : (core : Core) → ChangesNothing core → Meets core → ⊥
   pub writingAtFinish : (core : Core) → WritesAtFinish core → Meets core → ⊥
   pub pretendingToPublish : (core : Core) → PretendsToPublish core → Meets core → ⊥
+  -- .. of which there is a core that does both
+  pub writesAtFinish : WritesAtFinish (coreOf writesAndPretends)
+  pub pretendsToPublish : PretendsToPublish (coreOf writesAndPretends)
   pub writingAndPretending : Meets (coreOf writesAndPretends) → ⊥
   pub inventingStamps : (core : Core) → InventsStamps core → Meets core → ⊥
   -- The core made of the rules' own step is allowed.
