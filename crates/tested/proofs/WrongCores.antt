@@ -1,7 +1,8 @@
--- None of the wrong cores meets the contract of `crocktendril_step`: each answers or leaves something else at a short history from a fresh area.
+-- None of the wrong cores meets the contract of `crocktendril_step`: each answers or leaves something else at a short history from a fresh area, and the one that
+-- invents stamps at the area where it does.
 use mathlib.Core.Bool.{Bool, true, false}
 use mathlib.Core.List.{List, [], _∷_}
-use mathlib.Core.Logic.{_⊎_, inl, inr, ⊎-elim}
+use mathlib.Core.Logic.{⊎-elim}
 use mathlib.Core.Path.{_≡_, refl, sym, _∙_, ap, ap₂, subst}
 use Prim.Native.Nat.{ℕ, suc, pred, _*_, _/_, _^_, _<_, _≤_}
 use native.Mathlib.Omega.{arith}

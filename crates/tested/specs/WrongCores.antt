@@ -1,5 +1,5 @@
 -- The five wrong cores of "What the contracts are tested against", each whole, and the statement that the contract of `crocktendril_step` allows none of them.
-use mathlib.Core.Bool.{Bool, true, false, not, cond}
+use mathlib.Core.Bool.{Bool, true, not, cond}
 use mathlib.Core.List.{List, [], _∷_}
 use mathlib.Core.Logic.{_⊎_}
 use mathlib.Core.Path.{_≡_}
