@@ -1,3 +1,4 @@
 pub mod Formed
+pub mod WritesAndPretends
 pub mod WrongCores
 pub mod EdgesOnAreas

@@ -1,7 +1,8 @@
--- None of the wrong cores meets the contract of `crocktendril_step`: each answers or leaves something else at a short history from a fresh area.
+-- None of the wrong cores meets the contract of `crocktendril_step`: each answers or leaves something else at a short history from a fresh area, and the one that
+-- invents stamps at the area where it does.
 use mathlib.Core.Bool.{Bool, true, false}
 use mathlib.Core.List.{List, [], _∷_}
-use mathlib.Core.Logic.{_⊎_, inl, inr, ⊎-elim}
+use mathlib.Core.Logic.{⊎-elim}
 use mathlib.Core.Path.{_≡_, refl, sym, _∙_, ap, ap₂, subst}
 use Prim.Native.Nat.{ℕ, suc, pred, _*_, _/_, _^_, _<_, _≤_}
 use native.Mathlib.Omega.{arith}
@@ -27,22 +28,22 @@ use Rattle.rules.specs.Outcome.{Outcome, refused, accepted, replyOf, after, bel
 use Rattle.rules.specs.Steps.{enter, reload, publish}
 use Rattle.rules.specs.Step.{Call, insideSlots, stepOf, step}
 use Rattle.rules.specs.Layout.{lay, pack, stateOf}
-use Rattle.rules.specs.Area.{answered, stepOnBytes}
+use Rattle.rules.specs.Area.{stepOnBytes}
 use Rattle.rules.specs.Run.{call, endState}
 use Rattle.rules.specs.Edges.{two, alone}
 use Rattle.rules.proofs.Open.{computed}
 use Rattle.rules.proofs.Controller.{controller-fits}
 use Rattle.rules.proofs.RoundTrip.{pack-right, pack-state, state-back, state-right, round-trip}
 use Rattle.rules.proofs.StateSized.{logs-hold}
-use Rattle.history.specs.Slips.{slip}
 use Rattle.history.proofs.Cases.{Refusal, refuse-case, found-case, locking-case, twilight-case, publishing-case}
 use Rattle.history.proofs.StepCase.{slots-case}
 use Rattle.history.proofs.Keeps.{keeps}
 use Rattle.history.proofs.Right.{right-of}
 use Rattle.crocktendril.proofs.Demands.{demand2}
-use Rattle.tested.specs.Core.{Core, Askable, Meets, coreOf, withRow}
-use Rattle.tested.specs.WrongCores.{AlwaysRefuses, AlwaysRepliesTheSame, ChangesNothing, allHaveWords, WritesAtFinish, PretendsToPublish, allWritten, finishWrites, writesAndPretends, nextToPublish, StampsRight, InventsStamps, ShutOut}
-use Rattle.tested.proofs.Formed.{judged, two-right, end-right}
+use Rattle.tested.specs.Core.{Core, Askable, Meets, coreOf}
+use Rattle.tested.specs.WrongCores.{AlwaysRefuses, AlwaysRepliesTheSame, ChangesNothing, allHaveWords, WritesAtFinish, PretendsToPublish, writesAndPretends, nextToPublish, StampsRight, InventsStamps, ShutOut}
+use Rattle.tested.proofs.Formed.{two-right, end-right}
+use Rattle.tested.proofs.WritesAndPretends.{writes-at-finish, pretends-to-publish}
 
 -- a case that C can put to a core: the area of a well-formed state, and a call
 record Case (S : State) (call : Call) : Type 0 where
@@ -80,19 +81,6 @@ module _ {S : State} {call : Call} (x : Case S call) where
 
     leaves : stateOf controller (core (pack controller S) call .left) ≡ after S (step controller S call)
     leaves = ap (stateOf controller) (exactly .1) ∙ state-back controller controller-fits _ right-after
-
-  -- a step on states that is carried to areas has to leave what the rules' step leaves
-  carried : (next : State → Call → Outcome) → coreOf next (pack controller S) call .left ≡ pack controller (after S (next S call))
-  unfolding coreOf
-  carried next = rw (pack-right controller controller-fits S (x .right), back) (left (next S call))
-    where
-      left : (o : Outcome) → answered controller (pack controller S) o .bytes ≡ pack controller (after S o)
-      left (refused r) = refl
-      left (accepted r T) = refl
-
-  same-area : (next : State → Call → Outcome) → Meets (coreOf next)
-      → pack controller (after S (next S call)) ≡ pack controller (after S (step controller S call))
-  same-area next meets = sym (carried next) ∙ exactly (coreOf next) meets .1
 
 -- slot 1 begins on a fresh area, or closes there, which is not allowed
 fresh : stateRight controller two ≡ true
@@ -162,18 +150,6 @@ unfolding computed toFinish upToFinish toPublish
 pretending-to-publish core pretends meets =
     let word : State → ℕ = λ (S : State). cellAt S 0 .word in
     let words : _≡_ {A = ℕ} 9 5 = sym (ap word (leaves publishes core meets)) ∙ pretends _ _ (publishes .asked) refl 0 ∙ ap word (back publishes) in
-    omega arith
-
-written-right : stateRight controller (after toFinish (writesAndPretends toFinish (alone 12 1))) ≡ true
-unfolding judged toFinish upToFinish withRow slip finishWrites allWritten
-written-right = refl
-
-writing-and-pretending : Meets (coreOf writesAndPretends) → ⊥
-unfolding computed toFinish upToFinish toPublish withRow slip finishWrites allWritten
-writing-and-pretending meets =
-    let words : _≡_ {A = ℕ} 9 5 =
-    ap (λ (S : State). cellAt S 0 .word)
-    (sym (state-back controller controller-fits _ written-right) ∙ ap (stateOf controller) (same-area finishes writesAndPretends meets) ∙ back publishes) in
     omega arith
 
 -- what C can ask of an area is a case of its state
@@ -279,7 +255,9 @@ shut-out =
       changingNothing = changing-nothing;
       writingAtFinish = writing-at-finish;
       pretendingToPublish = pretending-to-publish;
-      writingAndPretending = writing-and-pretending;
+      writesAtFinish = writes-at-finish;
+      pretendsToPublish = pretends-to-publish;
+      writingAndPretending = writing-at-finish (coreOf writesAndPretends) writes-at-finish;
       inventingStamps = inventing-stamps;
       rightStep = λ l call a. record { answer = refl; bytes = refl };
     }

@@ -1,5 +1,5 @@
 -- The five wrong cores of "What the contracts are tested against", each whole, and the statement that the contract of `crocktendril_step` allows none of them.
-use mathlib.Core.Bool.{Bool, true, false, not, cond}
+use mathlib.Core.Bool.{Bool, true, not, cond}
 use mathlib.Core.List.{List, [], _∷_}
 use mathlib.Core.Logic.{_⊎_}
 use mathlib.Core.Path.{_≡_}
@@ -97,6 +97,9 @@ pub record ShutOut : Type 0 where
   pub changingNothing : (core : Core) → ChangesNothing core → Meets core → ⊥
   pub writingAtFinish : (core : Core) → WritesAtFinish core → Meets core → ⊥
   pub pretendingToPublish : (core : Core) → PretendsToPublish core → Meets core → ⊥
+  -- .. of which there is a core that does both
+  pub writesAtFinish : WritesAtFinish (coreOf writesAndPretends)
+  pub pretendsToPublish : PretendsToPublish (coreOf writesAndPretends)
   pub writingAndPretending : Meets (coreOf writesAndPretends) → ⊥
   pub inventingStamps : (core : Core) → InventsStamps core → Meets core → ⊥
   -- The core made of the rules' own step is allowed.
