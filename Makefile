@@ -39,6 +39,8 @@ test:
 	@echo "== the header in C89 and in C++"
 	gcc -std=c89 -x c -fsyntax-only $(STRICT) examples/c/header.cpp
 	g++ -std=c++98 -fsyntax-only $(STRICT) examples/c/header.cpp
+	@echo "== the must-fail edits: their texts"
+	python3 tools/edit_logs.py texts
 	@echo "== the second program: its tests"
 	cd oracle && cargo test --release --offline --quiet
 	@echo "== proofs, must-fail edits, the library and what is linked with it (ten to twenty minutes)"

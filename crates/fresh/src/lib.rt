@@ -3,6 +3,7 @@ ghost use mathlib.Core.Path.{_≡_};
 ghost use Prim.Native.Nat.{_+_, _*_, _≤_};
 ghost use lib.ListN.{length, drop};
 ghost use Rattle.wire.specs.Part.{splice};
+ghost use Rattle.slot.specs.Layout.{slotSize};
 ghost use Rattle.rules.specs.Model.{controller};
 ghost use Rattle.rules.specs.Layout.{pack};
 ghost use Rattle.rules.specs.Area.{describedCount, describedCell, describedCells, fresh, lengthsFit};
@@ -96,7 +97,7 @@ fn put_described(s: &mut [u8], ds: &[u8], n: usize)
 
 // Puts the slots, all idle, at `at`.
 fn put_idle(s: &mut [u8], at: usize)
-    requires { ⌜ at + 197 * 8 ≤ length (now s) ⌝ }
+    requires { ⌜ at + slotSize 8 * 8 ≤ length (now s) ⌝ }
     ensures { λ r. ⌜ now (s .exit) ≡ splice (now (s .entry)) at freshSlots ⌝ }
 {
     let mut i = 0;

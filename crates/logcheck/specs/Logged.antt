@@ -7,7 +7,7 @@ use lib.ListN.{length, getD, drop}
 use Rattle.wire.specs.Field.{fieldAt}
 use Rattle.value.specs.Legal.{legalWord}
 use Rattle.slot.specs.declared.SlotRecord.{SlotRecord}
-use Rattle.slot.specs.Layout.{slotOf}
+use Rattle.slot.specs.Layout.{readCapacity, writeCapacity, slotSize, slotOf}
 use Rattle.slot.specs.Logic.{_and_}
 use Rattle.slot.specs.Logs.{readLog, writeLog}
 use Rattle.rules.specs.Model.{controller}
@@ -27,11 +27,11 @@ legalAt kind l at = legalWord kind (fieldAt l at 4)
 abbrev pub zerosFrom : List ℕ → ℕ → ℕ → Bool
 zerosFrom l from count = zeros count (drop from l)
 
--- a slot's bytes, with counts at most 16
+-- a slot's bytes, with counts at most the capacities
 pub record Counted (l : List ℕ) : Type 0 where
-  pub size : 197 ≤ length l
-  pub reads : getD l 3 0 ≤ 16
-  pub writes : getD l 4 0 ≤ 16
+  pub size : slotSize 8 ≤ length l
+  pub reads : getD l 3 0 ≤ readCapacity
+  pub writes : getD l 4 0 ≤ writeCapacity
 
 -- both logs of a slot's record, in the area a
 unfoldable pub logsRightIn : List ℕ → SlotRecord → Bool

@@ -8,7 +8,7 @@ use lib.ListN.{getD, drop}
 use Rattle.wire.specs.Table.{tab}
 use Rattle.slot.specs.Logic.{_and_, every}
 use Rattle.slot.specs.Logs.{someMarked}
-use Rattle.slot.specs.Layout.{slotOf, readOf}
+use Rattle.slot.specs.Layout.{readSize, readsAt, slotOf, readOf}
 use Rattle.rules.specs.AreaRight.{marksRight, ignoringRight, flagsRight}
 
 -- the marks and the ignoring flag
@@ -17,5 +17,5 @@ markedRight l = marksRight (slotOf 8 l) and ignoringRight (slotOf 8 l) and flags
 
 -- what the bitwise or of the first `count` mark bytes tells of them
 pub record MarksGathered (r count : ℕ) (l : List ℕ) : Type 0 where
-  pub flags : leb r 1 ≡ every count (λ i. leb (getD l (21 + 6 * i + 1) 0) 1)
-  pub some : leb r 1 ≡ true → eqb r 1 ≡ someMarked (tab count (λ i. readOf (drop (21 + 6 * i) l)))
+  pub flags : leb r 1 ≡ every count (λ i. leb (getD l (readsAt 8 + readSize * i + 1) 0) 1)
+  pub some : leb r 1 ≡ true → eqb r 1 ≡ someMarked (tab count (λ i. readOf (drop (readsAt 8 + readSize * i) l)))

@@ -3,7 +3,7 @@ ghost use mathlib.Core.Bool.{true};
 ghost use mathlib.Core.Path.{_≡_};
 ghost use Prim.Native.Nat.{_≤_};
 ghost use lib.ListN.{length};
-ghost use Rattle.slot.specs.Layout.{readCapacity};
+ghost use Rattle.slot.specs.Layout.{readCapacity, slotSize};
 ghost use Rattle.logcheck.specs.Logged.{Counted, slotUnusedZero};
 ghost use Rattle.logcheck.specs.Marked.{MarksGathered, markedRight};
 use crate::FLAG_AT;
@@ -41,7 +41,7 @@ pub fn unused_zero(t: &[u8]) -> bool
 
 // The marks of all 16 entries in one byte: at most 1 if each of them is, and then 1 if one of them is. All, since a fixed number of turns is unrolled.
 fn marks_of(t: &[u8]) -> u8
-    requires { ⌜ 197 ≤ length (now t) ⌝ }
+    requires { ⌜ slotSize 8 ≤ length (now t) ⌝ }
     ensures { λ r. ⌜ MarksGathered r readCapacity (now (t .entry)) ⌝ }
 {
     let mut any: u8 = 0;

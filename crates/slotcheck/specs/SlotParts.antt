@@ -6,6 +6,7 @@ use lib.Dec.{leb}
 use lib.ListN.{drop}
 use Rattle.wire.specs.Field.{be}
 use Rattle.slot.specs.declared.SlotRecord.{SlotRecord}
+use Rattle.slot.specs.Layout.{commitAt, slotSize}
 use Rattle.slot.specs.Logic.{_and_, every}
 use Rattle.rules.specs.Model.{controller}
 use Rattle.rules.specs.Layout.{cellsIn, slotPlace, recordsIn}
@@ -21,7 +22,7 @@ slotsRight clock a = every 8 (λ k. slotRightIn a clock (slotPlace controller a 
 
 -- the commit stamp of slot k, counted from 0, in an area of n cells
 abbrev pub stampIn : ℕ → List ℕ → ℕ → ℕ
-stampIn n a k = be 8 (drop (14 + 14 * n + 197 * k + 13) a)
+stampIn n a k = be 8 (drop (14 + 14 * n + slotSize 8 * k + commitAt 8) a)
 
 -- the commit stamps of the slots, apart from each other
 abbrev pub stampsRight : List ℕ → Bool

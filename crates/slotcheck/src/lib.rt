@@ -2,7 +2,7 @@
 ghost use mathlib.Core.Path.{_≡_};
 ghost use Prim.Native.Nat.{_≤_, _<_};
 ghost use lib.ListN.{length};
-ghost use Rattle.slot.specs.Layout.{slotOf};
+ghost use Rattle.slot.specs.Layout.{slotOf, slotSize};
 ghost use Rattle.rules.specs.Model.{controller};
 ghost use Rattle.rules.specs.Layout.{cellsIn, slotPlace};
 ghost use Rattle.rules.specs.AreaRight.{busyRight};
@@ -21,7 +21,7 @@ pub const SLOTS: usize = 8;
 
 // A slot that is not idle. The unused entries come before the marks: zero, they may be gathered with the others.
 fn busy_right(s: &[u8], n: usize, clock: u64, t: &[u8]) -> bool
-    requires { ⌜ (Framed n (now s)) × (197 ≤ length (now t)) ⌝ }
+    requires { ⌜ (Framed n (now s)) × (slotSize 8 ≤ length (now t)) ⌝ }
     ensures { λ r. ⌜ r ≡ busyRight controller (cellsIn controller (now (s .entry))) clock (now (t .entry)) (slotOf 8 (now (t .entry))) ⌝ }
 {
     if !numbers::counts_right(t) {
@@ -41,7 +41,7 @@ fn busy_right(s: &[u8], n: usize, clock: u64, t: &[u8]) -> bool
 
 // Phases 0 to 4; an idle slot all zero. `t` are the bytes from the slot on, in an area `s` of `n` cells.
 fn slot_right(s: &[u8], n: usize, clock: u64, t: &[u8]) -> bool
-    requires { ⌜ (Framed n (now s)) × (197 ≤ length (now t)) ⌝ }
+    requires { ⌜ (Framed n (now s)) × (slotSize 8 ≤ length (now t)) ⌝ }
     ensures { λ r. ⌜ r ≡ slotRightIn (now (s .entry)) clock (now (t .entry)) ⌝ }
 {
     let phase = t[PHASE_AT];

@@ -7,7 +7,7 @@ use lib.Dec.{eqb, leb}
 use lib.ListN.{length, getD, drop}
 use Rattle.wire.specs.Table.{tab}
 use Rattle.value.specs.Legal.{legalWord}
-use Rattle.slot.specs.Layout.{writeOf}
+use Rattle.slot.specs.Layout.{writeCapacity, writeSize, writesAt, slotSize, writeOf}
 use Rattle.slot.specs.Logic.{_and_, _or_, every}
 use Rattle.slot.specs.Logs.{writesCell}
 use Rattle.rules.specs.Model.{controller}
@@ -21,7 +21,7 @@ holderIn a c = getD a (14 + 14 * c + 1) 0
 
 -- the cell is in the part `from` to `to` of the write log of the slot at the head of l
 unfoldable pub inPart : List ℕ → ℕ → ℕ → ℕ → Bool
-inPart l from to c = writesCell (drop from (tab to (λ i. writeOf (drop (117 + 5 * i) l)))) c
+inPart l from to c = writesCell (drop from (tab to (λ i. writeOf (drop (writesAt 8 + writeSize * i) l)))) c
 
 -- a slot that has to hold the cells of which H holds is the holder of each of them
 unfoldable pub claimRight : ℕ → (ℕ → ℕ) → (ℕ → Bool) → ℕ → Bool
@@ -29,14 +29,14 @@ claimRight n holder H slot = every n (λ c. not (H c) or eqb (holder c) slot)
 
 -- a part of a write log that may be read, with cells below n
 pub record Part (n : ℕ) (l : List ℕ) (from to : ℕ) : Type 0 where
-  pub size : 197 ≤ length l
+  pub size : slotSize 8 ≤ length l
   pub order : from ≤ to
-  pub within : to ≤ 16
-  pub below : (i : ℕ) → i < to → getD l (117 + 5 * i) 0 < n
+  pub within : to ≤ writeCapacity
+  pub below : (i : ℕ) → i < to → getD l (writesAt 8 + writeSize * i) 0 < n
 
 -- the bytes of a slot that is right but for the holders, in the area a
 pub record SlotRight (a l : List ℕ) : Type 0 where
-  pub size : 197 ≤ length l
+  pub size : slotSize 8 ≤ length l
   pub right : slotRightIn a (clockIn controller a) l ≡ true
 
 -- whether the claim is right in the area a; if so, the slot is now due to each cell that it claims, and nothing else has changed
