@@ -18,7 +18,7 @@ use Rattle.rules.specs.LogsRight.{loggedRight, readsRight}
 use Rattle.rules.specs.StateRight.{slotRight, stateRightButHolders}
 use Rattle.rules.specs.Layout.{countIn, lay}
 use Rattle.rules.specs.declared.Cell.{Cell}
-use Rattle.rules.proofs.StateSized.{LogsHold, logs-hold}
+use Rattle.rules.proofs.StateSized.{slot-logs-hold}
 use Rattle.rules.proofs.RoundTrip.{state-right, state-but-holders}
 use Rattle.rules.proofs.AreaRead.{count-read, slots-read}
 use Rattle.area.specs.Good.{Good, stateIn}
@@ -51,21 +51,14 @@ module _ (cells : List Cell) (clock : ℕ) where
     most : length reads ≤ readCapacity
     inside : (k : ℕ) → k < length reads → getD reads k noRead .cell < length cells
 
-  from-logs : {start : ℕ} {reads : List ReadEntry} {writes : List _} → LogsHold cells clock start reads writes → ReadsHold reads
+  reads-hold : (x : Slot) → slotRight cells clock x ≡ true → ReadsHold (readsOf x)
   unfolding readsRight loggedRight
-  from-logs {reads = reads} logs =
+  reads-hold x p =
+      let logs = slot-logs-hold cells clock x p in
       record {
         most = logs .readsFew;
-        inside = λ k h. ltb-true _ _ (and-left _ _ (all-at (λ (e : ReadEntry). loggedRight cells (e .cell) (e .word)) reads noRead (and-left _ _ (logs .readsHold)) k h));
+        inside = λ k h. ltb-true _ _ (and-left _ _ (all-at (λ (e : ReadEntry). loggedRight cells (e .cell) (e .word)) (readsOf x) noRead (and-left _ _ (logs .readsHold)) k h));
       }
-
-  reads-hold : (x : Slot) → slotRight cells clock x ≡ true → ReadsHold (readsOf x)
-  unfolding slotRight
-  reads-hold idle p = record { most = omega arith; inside = λ k h. absurd (omega arith) }
-  reads-hold (opened start reads writes) p = from-logs (logs-hold cells clock start reads writes (and-left _ _ p))
-  reads-hold (locking taken start reads writes) p = from-logs (logs-hold cells clock start reads writes (and-left _ _ p))
-  reads-hold (twilight ignoring start commit reads writes) p = from-logs (logs-hold cells clock start reads writes (and-left _ _ p))
-  reads-hold (publishing ignoring taken start commit reads writes) p = from-logs (logs-hold cells clock start reads writes (and-left _ _ p))
 
 -- each slot of a good area is right
 pub slot-holds : (l : List ℕ) → Good l → (i : ℕ) → i < 8 → slotRight (stateIn l .cells) (stateIn l .clock) (slotAt (stateIn l) i) ≡ true

@@ -22,9 +22,9 @@ use Rattle.history.proofs.Cases.{Uncommitted, is-open, is-locking, is-t
 use Rattle.history.proofs.Move.{newRead, newWrite, Move, began, read-written, read-again, read-first, wrote, closed, locked, entered, reread-done, updated, ask-done, reloading, ignored, nothing-to-ignore, aborted, committed, published, gave-up}
 use Rattle.history.proofs.Record.{made, seen}
 use Rattle.history.proofs.Right.{Right}
-use Rattle.rules.specs.StateRight.{slotRight, isIdle}
+use Rattle.rules.specs.StateRight.{slotRight}
 use Rattle.rules.specs.State.{commitOf, startOf, readsOf, writesOf}
-use Rattle.rules.proofs.StateSized.{LogsHold}
+use Rattle.rules.proofs.StateSized.{LogsHold, slot-logs-hold}
 use Rattle.history.proofs.Keeps.Lists.{first-none}
 use Rattle.history.proofs.Keeps.Logs.{put-same}
 use Rattle.history.proofs.Keeps.Kinds.{kinds-free}
@@ -36,7 +36,7 @@ use Rattle.history.proofs.Commit.{owing-case}
 use Rattle.history.proofs.Publish.{publish-stable, publish-inv}
 use Rattle.history.proofs.Turn.{Turn, turn-stable, reads-stay}
 use Rattle.history.proofs.Turns.{owed-by, early-turn, moved-turn, twilight-turn, stamped-turn, lock-data, free-data}
-use Rattle.history.proofs.Known.{slot-logs-hold, reads-inside, first-settled, entered-settled, reloaded-settled}
+use Rattle.history.proofs.Known.{reads-inside, first-settled, entered-settled, reloaded-settled}
 use Rattle.history.proofs.Along.{Along, along-still, along-turn, along-read, along-commit, begun, Fresh}
 
 -- a slot that has not committed owes nothing
@@ -78,9 +78,9 @@ module _ (M : Model) (start : State) (L : List Commit) (R : List SharedRead) (S 
       )
 
   -- the logs of the slot are right
-  logs-now : (x : Slot) → slotAt S i ≡ x → isIdle x ≡ false → LogsHold (S .cells) (S .clock) (startOf x) (readsOf x) (writesOf x)
-  logs-now x e busy =
-      slot-logs-hold (S .cells) (S .clock) x busy (subst (λ (y : Slot). slotRight (S .cells) (S .clock) y ≡ true) e (along .inv .right .slot i))
+  logs-now : (x : Slot) → slotAt S i ≡ x → LogsHold (S .cells) (S .clock) (startOf x) (readsOf x) (writesOf x)
+  logs-now x e =
+      slot-logs-hold (S .cells) (S .clock) x (subst (λ (y : Slot). slotRight (S .cells) (S .clock) y ≡ true) e (along .inv .right .slot i))
 
   -- the slot turns, and nothing is recorded
   turns : (clock : ℕ) (cells : List Cell) (y : Slot) → Turn (begun M start) M (logAt L) S i clock cells y
@@ -90,8 +90,8 @@ module _ (M : Model) (start : State) (L : List Commit) (R : List SharedRead) (S 
       rw (append-nil L, append-nil R) (along-turn M start L R S along i clock cells y t right reads fresh kinds)
 
   -- the entries of a slot that is in locking or twilight, with their cells inside
-  inside-reads : (x : Slot) → slotAt S i ≡ x → isIdle x ≡ false → All (λ (e : ReadEntry). e .cell < cellCount S) (readsOf x)
-  inside-reads x e busy = reads-inside (S .cells) (readsOf x) (logs-now x e busy .readsHold)
+  inside-reads : (x : Slot) → slotAt S i ≡ x → All (λ (e : ReadEntry). e .cell < cellCount S) (readsOf x)
+  inside-reads x e = reads-inside (S .cells) (readsOf x) (logs-now x e .readsHold)
 
   entered-reads : (taken begins : ℕ) (reads : List ReadEntry) (writes : List WriteEntry) (entries : List ReadEntry)
       → slotAt S i ≡ locking taken begins reads writes
@@ -106,7 +106,7 @@ module _ (M : Model) (start : State) (L : List Commit) (R : List SharedRead) (S 
       (both .0) (both .1))
       reads
       (All-both (λ (e : ReadEntry). e .cell < cellCount S) (λ (e : ReadEntry). Settled (begun M start) (logAt L) S begins (e .cell) (e .word)) reads
-      (inside-reads (locking taken begins reads writes) x refl) (subst (ReadsKnown (begun M start) (logAt L) S) x (along .inv .slot-reads i)))
+      (inside-reads (locking taken begins reads writes) x) (subst (ReadsKnown (begun M start) (logAt L) S) x (along .inv .slot-reads i)))
 
   reloaded-reads : (ignoring : Bool) (begins commit : ℕ) (reads : List ReadEntry) (writes : List WriteEntry) (entries : List ReadEntry)
       → slotAt S i ≡ twilight ignoring begins commit reads writes → obstacle S i reads ≡ none
@@ -121,7 +121,7 @@ module _ (M : Model) (start : State) (L : List Commit) (R : List SharedRead) (S 
       (both .0) (not-true _ (both .1)))
       reads
       (All-both (λ (e : ReadEntry). e .cell < cellCount S) (λ (e : ReadEntry). not (heldByOther i (cellAt S (e .cell))) ≡ true) reads
-      (inside-reads (twilight ignoring begins commit reads writes) x refl)
+      (inside-reads (twilight ignoring begins commit reads writes) x)
       (all-each (λ (e : ReadEntry). not (heldByOther i (cellAt S (e .cell)))) reads (first-none (λ (e : ReadEntry). heldByOther i (cellAt S (e .cell))) reads clear)))
 
   -- nothing changes, and nothing is recorded
@@ -138,7 +138,7 @@ module _ (M : Model) (start : State) (L : List Commit) (R : List SharedRead) (S 
       let joined : Slot = opened begins (reads ++ (newRead S c ∷ [])) writes in
       let t = early (opened begins reads writes) joined x (λ k d o. o) (λ b d w. w) refl tt in
       let settled = first-settled (begun M start) M (logAt L) S (along .inv) i inside (owed (opened begins reads writes) x (λ k d o. o)) begins c joined
-      (λ b d w. w) (logs-now (opened begins reads writes) x refl .startHolds) there free old in
+      (λ b d w. w) (logs-now (opened begins reads writes) x .startHolds) there free old in
       let next = along-turn M start L R S along i (S .clock) (S .cells) joined t right
       (All-snoc _ reads (newRead S c) (known (S .clock) (S .cells) (opened begins reads writes) joined x t) settled) tt (λ d. refl) in
       rw (append-nil L) (along-read M start L R (turn S i (S .clock) (S .cells) joined) next _ (along .kinds c, settled))

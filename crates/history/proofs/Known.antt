@@ -1,5 +1,5 @@
 -- The reads that a move makes known: a first read at its start, an unmarked entry at enter and every entry at reload just before the new stamp.
-use mathlib.Core.Bool.{true, false, false≢true}
+use mathlib.Core.Bool.{true, false}
 use mathlib.Core.List.{List}
 use mathlib.Core.Path.{_≡_, sym, _∙_}
 use Prim.Native.Nat.{ℕ, suc, _<_, _≤_}
@@ -11,27 +11,15 @@ use Rattle.slot.specs.declared.WriteEntry.{WriteEntry}
 use Rattle.rules.specs.declared.Cell.{Cell}
 use Rattle.slot.specs.Logic.{All}
 use Rattle.rules.specs.Model.{Model}
-use Rattle.rules.specs.State.{State, Slot, idle, opened, locking, twilight, publishing, cellCount, cellAt, slotAt, turn, readsOf, writesOf, startOf}
+use Rattle.rules.specs.State.{State, Slot, twilight, cellCount, cellAt, slotAt, turn}
 use Rattle.rules.specs.Cells.{heldByOther, newer, withMark}
 use Rattle.rules.specs.LogsRight.{loggedRight, readsRight}
-use Rattle.rules.specs.StateRight.{slotRight, isIdle}
 use Rattle.slot.proofs.Logic.{and-left}
-use Rattle.rules.proofs.StateSized.{LogsHold, logs-hold}
 use Rattle.history.proofs.Keeps.Lists.{or-neither}
 use Rattle.history.proofs.Invariant.{LateWrite, Owes, Settled, Inv, All-map, all-each}
 use Rattle.history.proofs.Replay.{quiet}
 use Rattle.history.proofs.Holders.{stamp-past, no-later, cell-now}
 use Rattle.history.proofs.Turns.{paid, quiet-after}
-
--- the logs of a slot that is not idle are right
-pub slot-logs-hold : (cells : List Cell) (clock : ℕ) (x : Slot) → isIdle x ≡ false → slotRight cells clock x ≡ true
-    → LogsHold cells clock (startOf x) (readsOf x) (writesOf x)
-unfolding slotRight
-slot-logs-hold cells clock idle busy p = absurd (false≢true (sym busy))
-slot-logs-hold cells clock (opened start reads writes) busy p = logs-hold cells clock start reads writes (and-left _ _ p)
-slot-logs-hold cells clock (locking taken start reads writes) busy p = logs-hold cells clock start reads writes (and-left _ _ p)
-slot-logs-hold cells clock (twilight ignoring start commit reads writes) busy p = logs-hold cells clock start reads writes (and-left _ _ p)
-slot-logs-hold cells clock (publishing ignoring taken start commit reads writes) busy p = logs-hold cells clock start reads writes (and-left _ _ p)
 
 -- the cells of a right read log are there
 pub reads-inside : (cells : List Cell) (reads : List ReadEntry) → readsRight cells reads ≡ true → All (λ (e : ReadEntry). e .cell < length cells) reads

@@ -14,9 +14,10 @@ use Rattle.slot.specs.declared.WriteEntry.{WriteEntry}
 use Rattle.slot.specs.Logs.{busyRecord}
 use Rattle.slot.specs.Layout.{readCapacity, writeCapacity, noRead, noWrite}
 use Rattle.slot.specs.Fit.{Fitting}
+use Rattle.slot.specs.Logic.{_and_, all, pairwise}
 use Rattle.slot.proofs.Padding.{length-padded, padded-zero}
 use Rattle.rules.specs.Model.{Model, lastStamp, cellSize, FitsBytes}
-use Rattle.rules.specs.State.{State, Slot, idle, opened, locking, twilight, publishing, cellCount, cellAt, slotAt, noCell}
+use Rattle.rules.specs.State.{State, Slot, idle, opened, locking, twilight, publishing, cellCount, cellAt, slotAt, noCell, readsOf, writesOf, startOf}
 use Rattle.rules.specs.LogsRight.{cellRight, loggedRight, readsRight, writesRight, commitBetween, cellCountRight}
 use Rattle.rules.specs.StateRight.{logsRight, slotRight, shapeRight, stateRightButHolders}
 use Rattle.rules.specs.Layout.{lay}
@@ -55,6 +56,16 @@ logs-hold cells clock start reads writes p =
       writesHold = and-left _ _ p3;
       startHolds = leb-true _ _ (and-right _ _ p3);
     }
+
+-- a right slot's logs are right in whatever phase it is: those of an idle slot are empty
+pub slot-logs-hold : (cells : List Cell) (clock : ℕ) (x : Slot) → slotRight cells clock x ≡ true → LogsHold cells clock (startOf x) (readsOf x) (writesOf x)
+unfolding slotRight readsRight writesRight all pairwise _and_
+slot-logs-hold cells clock idle p =
+    record { readsFew = omega arith; writesFew = omega arith; readsHold = refl; writesHold = refl; startHolds = omega arith }
+slot-logs-hold cells clock (opened start reads writes) p = logs-hold cells clock start reads writes (and-left _ _ p)
+slot-logs-hold cells clock (locking taken start reads writes) p = logs-hold cells clock start reads writes (and-left _ _ p)
+slot-logs-hold cells clock (twilight ignoring start commit reads writes) p = logs-hold cells clock start reads writes (and-left _ _ p)
+slot-logs-hold cells clock (publishing ignoring taken start commit reads writes) p = logs-hold cells clock start reads writes (and-left _ _ p)
 
 module _ (w : ℕ) (cells : List Cell) (clock : ℕ) (clockFits : clock < 256 ^ w) where
   -- a record with right logs and a commit stamp at most the clock fits

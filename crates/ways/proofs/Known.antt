@@ -2,7 +2,7 @@
 -- "well formed" for the slot, in whatever phase it is, since the logs of an idle slot are empty.
 use mathlib.Core.Bool.{true}
 use mathlib.Core.List.{List}
-use mathlib.Core.Path.{_≡_, refl, ap}
+use mathlib.Core.Path.{_≡_, ap}
 use Prim.Native.Nat.{ℕ, _<_, _≤_}
 use native.Mathlib.Omega.{arith}
 use lib.Dec.{ltb}
@@ -12,17 +12,16 @@ use borrow.Author.Tests.{ltb-true}
 use Rattle.slot.specs.declared.WriteEntry.{WriteEntry}
 use Rattle.slot.specs.declared.SlotRecord.{SlotRecord}
 use Rattle.slot.specs.Layout.{writeCapacity, noWrite}
-use Rattle.slot.specs.Logic.{_and_, all, pairwise}
+use Rattle.slot.specs.Logic.{pairwise}
 use Rattle.slot.specs.Logs.{writeLog, paddedWrites}
 use Rattle.slot.proofs.Logic.{and-left, and-right, all-at}
-use Rattle.rules.specs.State.{Slot, idle, opened, locking, twilight, publishing, slotAt, readsOf, writesOf, startOf}
-use Rattle.rules.specs.LogsRight.{loggedRight, readsRight, writesRight}
-use Rattle.rules.specs.StateRight.{slotRight}
+use Rattle.rules.specs.State.{Slot, slotAt, readsOf, writesOf, startOf}
+use Rattle.rules.specs.LogsRight.{loggedRight, writesRight}
 use Rattle.rules.specs.Layout.{lay, countIn}
 use Rattle.rules.specs.Model.{controller}
 use Rattle.rules.specs.declared.Cell.{Cell}
 use Rattle.rules.proofs.LayView.{write-log}
-use Rattle.rules.proofs.StateSized.{LogsHold, logs-hold}
+use Rattle.rules.proofs.StateSized.{LogsHold, slot-logs-hold}
 use Rattle.rules.proofs.AreaRead.{count-read}
 use Rattle.area.specs.Good.{Good, stateIn}
 use Rattle.area.proofs.Logged.{slot-holds}
@@ -34,15 +33,6 @@ pub record Known (l : List ℕ) (v : SlotRecord) : Type 0 where
   pub unused : v .writes ≡ paddedWrites (writeLog v)
   pub ascending : pairwise (λ (e f : WriteEntry). ltb (e .cell) (f .cell)) (writeLog v) ≡ true
   pub writesBelow : (k : ℕ) → k < v .writecount → getD (v .writes) k noWrite .cell < countIn l
-
-logs-of : (cells : List Cell) (clock : ℕ) (x : Slot) → slotRight cells clock x ≡ true → LogsHold cells clock (startOf x) (readsOf x) (writesOf x)
-unfolding slotRight readsRight writesRight all pairwise _and_
-logs-of cells clock idle p =
-    record { readsFew = omega arith; writesFew = omega arith; readsHold = refl; writesHold = refl; startHolds = omega arith }
-logs-of cells clock (opened start reads writes) p = logs-hold cells clock start reads writes (and-left _ _ p)
-logs-of cells clock (locking taken start reads writes) p = logs-hold cells clock start reads writes (and-left _ _ p)
-logs-of cells clock (twilight ignoring start commit reads writes) p = logs-hold cells clock start reads writes (and-left _ _ p)
-logs-of cells clock (publishing ignoring taken start commit reads writes) p = logs-hold cells clock start reads writes (and-left _ _ p)
 
 -- v is the record of a slot whose logs hold
 module _ (l : List ℕ) (clock : ℕ) (x : Slot) (logs : LogsHold (stateIn l .cells) clock (startOf x) (readsOf x) (writesOf x))
@@ -73,4 +63,4 @@ module _ (l : List ℕ) (clock : ℕ) (x : Slot) (logs : LogsHold (stateIn l .ce
 pub known : {l : List ℕ} {i : ℕ} {v : SlotRecord} → Good l → i < 8 → v ≡ lay (slotAt (stateIn l) i) → Known l v
 known {l} {i} {v} good below laid =
     from-logs l (stateIn l .clock) (slotAt (stateIn l) i)
-    (logs-of (stateIn l .cells) (stateIn l .clock) (slotAt (stateIn l) i) (slot-holds l good i below)) v laid
+    (slot-logs-hold (stateIn l .cells) (stateIn l .clock) (slotAt (stateIn l) i) (slot-holds l good i below)) v laid

@@ -1,7 +1,8 @@
 -- Each way out of write and update, in the terms in which the code has its facts: the slot's record, and tests on its fields. Each test that was passed takes away
 -- one line of the step's definition.
 use mathlib.Core.Bool.{Bool, true, false, not}
-use mathlib.Core.Path.{_≡_, _∙_, ap}
+use mathlib.Core.List.{List}
+use mathlib.Core.Path.{_≡_, refl, _∙_, ap}
 use Prim.Native.Nat.{ℕ, _<_, _≤_}
 use borrow.Author.Tests.{eq-eqb, ne-eqb}
 use Rattle.value.specs.declared.CellValue.{CellValue}
@@ -23,6 +24,7 @@ use Rattle.rules.specs.Outcome.{Outcome, refused, accepted, refuseIf, fittingVa
 use Rattle.rules.specs.Steps.{write, illegalWrite, update, illegalUpdate}
 use Rattle.ways.specs.Asked.{noRoom}
 use Rattle.ways.proofs.Tests.{stops, passes, no-cell, is-cell}
+use Rattle.ways.proofs.Fields.{same}
 use Rattle.ways.proofs.Found.{write-sought}
 use Rattle.ways.proofs.Phase.{is-open, is-twilight, when-open, when-twilight, write-count, not-open, not-twilight}
 use Rattle.ways.proofs.Record.{Stands, stands}
@@ -39,6 +41,33 @@ module _ (S : State) (c : ℕ) (to : CellValue) (o : Outcome) {kind word : ℕ} 
 
     value-0 : kind ≡ x .kind → fittingValue S c to o ≡ o
     value-0 same = rw (← of-kind, ← of-word, ← lawful, is-legal, ← there, eq-eqb kind (x .kind) same)
+
+-- the slot is in the phase, and the area has the cell that is to have the word
+pub record Placed (S : State) (i c phase : ℕ) (to : CellValue) (word : ℕ) : Type 0 where
+  pub at-phase : lay (slotAt S i) .phase ≡ phase
+  pub inside : c < cellCount S
+  pub of-word : word ≡ wordOf to
+
+-- the value was asked for what it is
+pub record Asked (S : State) (i c phase : ℕ) (to : CellValue) (kind word : ℕ) (legal : Bool) : Type 0 where
+  pub placed : Placed S i c phase to word
+  pub of-kind : kind ≡ kindOf to
+  pub lawful : legal ≡ legalWord kind word
+
+pub asked : {S : State} {i c k phase : ℕ} {to : CellValue} {kind word n : ℕ} {legal : Bool} → k ≡ lay (slotAt S i) .phase → k ≡ phase → n ≡ cellCount S → c < n
+    → kind ≡ kindOf to → word ≡ wordOf to → legal ≡ legalWord kind word → Asked S i c phase to kind word legal
+asked phase found count below of-kind of-word lawful =
+    record { placed = record { at-phase = same phase found; inside = rw (← count) below; of-word = of-word }; of-kind = of-kind; lawful = lawful }
+
+-- and was found to fit the cell
+pub record Fits (S : State) (i c phase : ℕ) (to : CellValue) (word : ℕ) : Type 0 where
+  pub placed : Placed S i c phase to word
+  pub fitting : (o : Outcome) → fittingValue S c to o ≡ o
+
+pub fits : {S : State} {i c phase : ℕ} {to : CellValue} {kind word : ℕ} {legal : Bool} {x : Cell} → Asked S i c phase to kind word legal → not legal ≡ false
+    → x ≡ cellAt S c → kind ≡ x .kind → Fits S i c phase to word
+fits {S = S} {c = c} {to = to} k is-legal there alike =
+    record { placed = k .placed; fitting = λ o. value-0 S c to o (k .of-kind) (k .placed .of-word) (k .lawful) is-legal there alike }
 
 -- the record with the entry put stands for the slot with the entry put
 module _ (x : Slot) (v : SlotRecord) (here : v ≡ lay x) (e : WriteEntry) {w : SlotRecord} (made : w ≡ written v e) where
@@ -71,88 +100,88 @@ module _ (M : Model) (S : State) (i c : ℕ) where
   unfolding illegalUpdate
   illegal-update-4 n = not-twilight (slotAt S i) n _
 
-  -- v is the slot's record, and n the number of cells
-  module _ {v : SlotRecord} (here : v ≡ lay (slotAt S i)) {n : ℕ} (count : n ≡ cellCount S) where
-    -- write, in an open slot
-    module _ (p : v .phase ≡ 1) where
+  -- 5: no such cell, n being the number of cells
+  module _ {n : ℕ} (count : n ≡ cellCount S) where
+    module _ (p : lay (slotAt S i) .phase ≡ 1) where
       pub write-5 : (to : CellValue) → n ≤ c → write M S i c to ≡ refused NoSuchCell
       unfolding write
-      write-5 to past = when-open (slotAt S i) v here p _ ∙ no-cell S c _ count past
+      write-5 to past = when-open (slotAt S i) _ refl p _ ∙ no-cell S c _ count past
 
       pub illegal-write-5 : n ≤ c → illegalWrite M S i c ≡ refused NoSuchCell
       unfolding illegalWrite
-      illegal-write-5 past = when-open (slotAt S i) v here p _ ∙ no-cell S c _ count past
+      illegal-write-5 past = when-open (slotAt S i) _ refl p _ ∙ no-cell S c _ count past
 
-      module _ (inside : c < n) where
-        pub illegal-write-6 : illegalWrite M S i c ≡ refused IllegalValue
-        unfolding illegalWrite
-        illegal-write-6 = when-open (slotAt S i) v here p _ ∙ is-cell S c _ count inside
+      pub illegal-write-6 : c < n → illegalWrite M S i c ≡ refused IllegalValue
+      unfolding illegalWrite
+      illegal-write-6 inside = when-open (slotAt S i) _ refl p _ ∙ is-cell S c _ count inside
 
-        module _ (to : CellValue) {kind word : ℕ} (of-kind : kind ≡ kindOf to) (of-word : word ≡ wordOf to) {legal : Bool} (lawful : legal ≡ legalWord kind word) where
-          valued : write M S i c to
-              ≡ fittingValue S c to
-              (refuseIf (noRoom v c) LogFull
-              (accepted Done (turn S i (S .clock) (S .cells) (opened (v .start) (readLog v) (putWrite (record { cell = c; word = word }) (writeLog v))))))
-          unfolding write
-          valued = when-open (slotAt S i) v here p _ ∙ is-cell S c _ count inside ∙ rw (write-count (slotAt S i) v here, of-word)
-
-          pub write-6 : not legal ≡ true → write M S i c to ≡ refused IllegalValue
-          write-6 told = valued ∙ value-6 S c to _ of-kind of-word lawful told
-
-          module _ (is-legal : not legal ≡ false) {x : Cell} (there : x ≡ cellAt S c) where
-            pub write-7 : (kind ≡ x .kind → ⊥) → write M S i c to ≡ refused OtherKind
-            write-7 other = valued ∙ value-7 S c to _ of-kind of-word lawful is-legal there other
-
-            module _ (same : kind ≡ x .kind) {full : Bool} (asked : full ≡ noRoom v c) where
-              fitting : write M S i c to
-                  ≡ refuseIf full LogFull
-                  (accepted Done (turn S i (S .clock) (S .cells) (opened (v .start) (readLog v) (putWrite (record { cell = c; word = word }) (writeLog v)))))
-              fitting = valued ∙ value-0 S c to _ of-kind of-word lawful is-legal there same ∙ rw asked
-
-              pub write-9 : full ≡ true → write M S i c to ≡ refused LogFull
-              write-9 told = fitting ∙ stops _ _ told
-
-              pub write-0 : full ≡ false → {w : SlotRecord} → w ≡ written v (record { cell = c; word = word })
-                  → write M S i c to ≡ accepted Done (turn S i (S .clock) (S .cells) (view w))
-              write-0 told made = fitting ∙ passes _ _ told ∙ rw (written-stands (slotAt S i) v here (record { cell = c; word = word }) made p .viewed)
-
-    -- update, in twilight
-    module _ (p : v .phase ≡ 3) where
+    module _ (p : lay (slotAt S i) .phase ≡ 3) where
       pub update-5 : (to : CellValue) → n ≤ c → update M S i c to ≡ refused NoSuchCell
       unfolding update
-      update-5 to past = when-twilight (slotAt S i) v here p _ ∙ no-cell S c _ count past
+      update-5 to past = when-twilight (slotAt S i) _ refl p _ ∙ no-cell S c _ count past
 
       pub illegal-update-5 : n ≤ c → illegalUpdate M S i c ≡ refused NoSuchCell
       unfolding illegalUpdate
-      illegal-update-5 past = when-twilight (slotAt S i) v here p _ ∙ no-cell S c _ count past
+      illegal-update-5 past = when-twilight (slotAt S i) _ refl p _ ∙ no-cell S c _ count past
 
-      module _ (inside : c < n) where
-        pub illegal-update-6 : illegalUpdate M S i c ≡ refused IllegalValue
-        unfolding illegalUpdate
-        illegal-update-6 = when-twilight (slotAt S i) v here p _ ∙ is-cell S c _ count inside
+      pub illegal-update-6 : c < n → illegalUpdate M S i c ≡ refused IllegalValue
+      unfolding illegalUpdate
+      illegal-update-6 inside = when-twilight (slotAt S i) _ refl p _ ∙ is-cell S c _ count inside
 
-        module _ (to : CellValue) {kind word : ℕ} (of-kind : kind ≡ kindOf to) (of-word : word ≡ wordOf to) {legal : Bool} (lawful : legal ≡ legalWord kind word) where
-          revalued : update M S i c to
-              ≡ fittingValue S c to
-              (inLog (writeEntry (writeLog v) c) λ (e : WriteEntry).
-              accepted Done (turn S i (S .clock) (S .cells) (twilight (v .ignoring) (v .start) (v .commit) (readLog v) (putWrite (record { cell = c; word = word }) (writeLog v)))))
-          unfolding update
-          revalued = when-twilight (slotAt S i) v here p _ ∙ is-cell S c _ count inside ∙ rw of-word
+module _ (M : Model) (S : State) (i c : ℕ) (to : CellValue) where
+  abbrev v : SlotRecord
+  v = lay (slotAt S i)
 
-          pub update-6 : not legal ≡ true → update M S i c to ≡ refused IllegalValue
-          update-6 told = revalued ∙ value-6 S c to _ of-kind of-word lawful told
+  abbrev put : ℕ → List WriteEntry
+  put word = putWrite (record { cell = c; word = word }) (writeLog v)
 
-          module _ (is-legal : not legal ≡ false) {x : Cell} (there : x ≡ cellAt S c) where
-            pub update-7 : (kind ≡ x .kind → ⊥) → update M S i c to ≡ refused OtherKind
-            update-7 other = revalued ∙ value-7 S c to _ of-kind of-word lawful is-legal there other
+  -- write, in an open slot
+  valued : {word : ℕ} → Placed S i c 1 to word → write M S i c to
+      ≡ fittingValue S c to (refuseIf (noRoom v c) LogFull (accepted Done (turn S i (S .clock) (S .cells) (opened (v .start) (readLog v) (put word)))))
+  unfolding write
+  valued k = when-open (slotAt S i) _ refl (k .at-phase) _ ∙ is-cell S c _ refl (k .inside) ∙ rw (write-count (slotAt S i) v refl, k .of-word)
 
-            module _ (same : kind ≡ x .kind) {f : WriteFound} (sought : f ≡ writeFound (writeEntry (writeLog v) c)) where
-              pub update-8 : f ≡ write.Nothing → update M S i c to ≡ refused NotInLog
-              update-8 told =
-                  revalued ∙ value-0 S c to _ of-kind of-word lawful is-legal there same ∙ rw (write-sought (writeEntry (writeLog v) c) sought told)
+  -- update, in twilight
+  revalued : {word : ℕ} → Placed S i c 3 to word → update M S i c to
+      ≡ fittingValue S c to
+      (inLog (writeEntry (writeLog v) c) λ (e : WriteEntry).
+      accepted Done (turn S i (S .clock) (S .cells) (twilight (v .ignoring) (v .start) (v .commit) (readLog v) (put word))))
+  unfolding update
+  revalued k = when-twilight (slotAt S i) _ refl (k .at-phase) _ ∙ is-cell S c _ refl (k .inside) ∙ rw (k .of-word)
 
-              pub update-0 : {e : WriteEntry} {w : SlotRecord} → f ≡ write.Entry e → w ≡ written v (record { cell = c; word = word })
-                  → update M S i c to ≡ accepted Done (turn S i (S .clock) (S .cells) (view w))
-              update-0 told made =
-                  revalued ∙ value-0 S c to _ of-kind of-word lawful is-legal there same
-                  ∙ rw (write-sought (writeEntry (writeLog v) c) sought told, updated-stands (slotAt S i) v here (record { cell = c; word = word }) made p .viewed)
+  -- 6: an illegal value; 7: one of another kind
+  module _ {kind word : ℕ} {legal : Bool} (k : Asked S i c 1 to kind word legal) where
+    pub write-6 : not legal ≡ true → write M S i c to ≡ refused IllegalValue
+    write-6 told = valued (k .placed) ∙ value-6 S c to _ (k .of-kind) (k .placed .of-word) (k .lawful) told
+
+    pub write-7 : not legal ≡ false → {x : Cell} → x ≡ cellAt S c → (kind ≡ x .kind → ⊥) → write M S i c to ≡ refused OtherKind
+    write-7 is-legal there other = valued (k .placed) ∙ value-7 S c to _ (k .of-kind) (k .placed .of-word) (k .lawful) is-legal there other
+
+  module _ {kind word : ℕ} {legal : Bool} (k : Asked S i c 3 to kind word legal) where
+    pub update-6 : not legal ≡ true → update M S i c to ≡ refused IllegalValue
+    update-6 told = revalued (k .placed) ∙ value-6 S c to _ (k .of-kind) (k .placed .of-word) (k .lawful) told
+
+    pub update-7 : not legal ≡ false → {x : Cell} → x ≡ cellAt S c → (kind ≡ x .kind → ⊥) → update M S i c to ≡ refused OtherKind
+    update-7 is-legal there other = revalued (k .placed) ∙ value-7 S c to _ (k .of-kind) (k .placed .of-word) (k .lawful) is-legal there other
+
+  -- 9: the write log is full; 8: it has not the cell
+  module _ {word : ℕ} (k : Fits S i c 1 to word) {full : Bool} (room : full ≡ noRoom v c) where
+    roomy : write M S i c to ≡ refuseIf full LogFull (accepted Done (turn S i (S .clock) (S .cells) (opened (v .start) (readLog v) (put word))))
+    roomy = valued (k .placed) ∙ k .fitting _ ∙ rw room
+
+    pub write-9 : full ≡ true → write M S i c to ≡ refused LogFull
+    write-9 told = roomy ∙ stops _ _ told
+
+    pub write-0 : full ≡ false → {w : SlotRecord} → w ≡ written v (record { cell = c; word = word })
+        → write M S i c to ≡ accepted Done (turn S i (S .clock) (S .cells) (view w))
+    write-0 told made = roomy ∙ passes _ _ told ∙ rw (written-stands (slotAt S i) v refl (record { cell = c; word = word }) made (k .placed .at-phase) .viewed)
+
+  module _ {word : ℕ} (k : Fits S i c 3 to word) {f : WriteFound} (sought : f ≡ writeFound (writeEntry (writeLog v) c)) where
+    pub update-8 : f ≡ write.Nothing → update M S i c to ≡ refused NotInLog
+    update-8 told = revalued (k .placed) ∙ k .fitting _ ∙ rw (write-sought (writeEntry (writeLog v) c) sought told)
+
+    pub update-0 : {e : WriteEntry} {w : SlotRecord} → f ≡ write.Entry e → w ≡ written v (record { cell = c; word = word })
+        → update M S i c to ≡ accepted Done (turn S i (S .clock) (S .cells) (view w))
+    update-0 told made =
+        revalued (k .placed) ∙ k .fitting _
+        ∙ rw (write-sought (writeEntry (writeLog v) c) sought told, updated-stands (slotAt S i) v refl (record { cell = c; word = word }) made (k .placed .at-phase) .viewed)

@@ -6,18 +6,18 @@ use native.Mathlib.Omega.{arith}
 use lib.ListN.{drop, replicate}
 use Rattle.wire.specs.Table.{tab}
 use Rattle.wire.proofs.Laws.Table.{fill-start, fill-step, fill-end}
-use Rattle.slot.specs.Layout.{noWrite, writeOf, writeSize}
+use Rattle.slot.specs.Layout.{writeCapacity, noWrite, writeOf, writeSize}
 use Rattle.entries.proofs.writes_of.Statement.{statement}
 use Rattle.entries.proofs.writes_of.Tie as tie
 
 abbrev Inv-loop : tie.InvT-loop
-Inv-loop s at log₀ i₀ log i = (i ≤ 16) × (log ≡ tab i (λ j. writeOf (drop (at + writeSize * j) s)) ++ drop i (replicate 16 noWrite))
+Inv-loop s at log₀ i₀ log i = (i ≤ writeCapacity) × (log ≡ tab i (λ j. writeOf (drop (at + writeSize * j) s)) ++ drop i (replicate writeCapacity noWrite))
 
 abbrev μ-loop : tie.MeasureT-loop
-μ-loop s at log₀ i₀ log i = 16 - i
+μ-loop s at log₀ i₀ log i = writeCapacity - i
 
 loop-holds : tie.Need-loop-holds Inv-loop μ-loop
-loop-holds c = (omega arith, fill-start (λ j. writeOf (drop (c .before .args .at + writeSize * j) (c .before .args .s .now))) (replicate 16 noWrite))
+loop-holds c = (omega arith, fill-start (λ j. writeOf (drop (c .before .args .at + writeSize * j) (c .before .args .s .now))) (replicate writeCapacity noWrite))
 
 mul-write-of : tie.Need-mul-write-of Inv-loop μ-loop
 mul-write-of c = omega arith
@@ -45,14 +45,14 @@ loop-again c =
     let args = let c : tie.Start Inv-loop μ-loop = search in c .args in
     let loop = let c : tie.At-loop Inv-loop μ-loop = search in c .loop in
     let write-of = c .write-of in
-    (omega arith, rw (write-of .ensures) (fill-step (λ j. writeOf (drop (args .at + writeSize * j) (args .s .now))) (replicate 16 noWrite) (loop .log) (loop .i) (omega arith) (loop .inv .1)))
+    (omega arith, rw (write-of .ensures) (fill-step (λ j. writeOf (drop (args .at + writeSize * j) (args .s .now))) (replicate writeCapacity noWrite) (loop .log) (loop .i) (omega arith) (loop .inv .1)))
 
 returns : tie.Need-returns Inv-loop μ-loop
 returns c =
     let args = let c : tie.Start Inv-loop μ-loop = search in c .args in
     let loop = c .before .loop in
-    let whole : loop .i ≡ 16 = omega arith in
-    fill-end (λ j. writeOf (drop (args .at + writeSize * j) (args .s .now))) (replicate 16 noWrite) (loop .log) 16 (omega arith) (rw whole at (loop .inv .1))
+    let whole : loop .i ≡ writeCapacity = omega arith in
+    fill-end (λ j. writeOf (drop (args .at + writeSize * j) (args .s .now))) (replicate writeCapacity noWrite) (loop .log) writeCapacity (omega arith) (rw whole at (loop .inv .1))
 
 pub writes-of-spec : {M : Type 1} → statement M
 writes-of-spec =

@@ -65,8 +65,8 @@ module _ (v : SlotRecord) {h w : SlotRecord} (taken-out : h ≡ fieldsOf v) wher
   joined-fields e room made =
       let same : w ≡ joined (fieldsOf v) e = made ∙ ap (λ (u : SlotRecord). joined u e) taken-out in
       let place : v .readcount + 1 - 1 ≡ v .readcount = omega arith in
-      let put : getD (set (replicate 16 noRead) (v .readcount) e) (v .readcount) noRead ≡ e = getD-set-same (replicate 16 noRead) (v .readcount) e noRead room in
-      ap (withLast v) same ∙ (λ i. withReads v (v .readcount + 1) (set (v .reads) (place i) (getD (set (replicate 16 noRead) (v .readcount) e) (place i) noRead)))
+      let put : getD (set (replicate readCapacity noRead) (v .readcount) e) (v .readcount) noRead ≡ e = getD-set-same (replicate readCapacity noRead) (v .readcount) e noRead room in
+      ap (withLast v) same ∙ (λ i. withReads v (v .readcount + 1) (set (v .reads) (place i) (getD (set (replicate readCapacity noRead) (v .readcount) e) (place i) noRead)))
       ∙ ap (λ (x : ReadEntry). withReads v (v .readcount + 1) (set (v .reads) (v .readcount) x)) put
 
 -- with one log taken out

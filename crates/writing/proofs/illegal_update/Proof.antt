@@ -28,7 +28,7 @@ returns-2 c =
     let phase-at = let c : tie.After-phase-at = search in c .phase-at .ensures in
     let if1 = let c : tie.Else1 = search in c .if1 .left in
     let count = let c : tie.After-count = search in c .count .ensures in
-    refuses _ (illegal-update-5 controller _ _ _ refl count (same phase-at if1) (c .if2 .taken))
+    refuses _ (illegal-update-5 controller _ _ _ count (same phase-at if1) (c .if2 .taken))
 
 same-length-3 : tie.Need-same-length-3
 same-length-3 c = search needs
@@ -38,7 +38,7 @@ returns-3 c =
     let phase-at = let c : tie.After-phase-at = search in c .phase-at .ensures in
     let if1 = let c : tie.Else1 = search in c .if1 .left in
     let count = let c : tie.After-count = search in c .count .ensures in
-    refuses _ (illegal-update-6 controller _ _ _ refl count (same phase-at if1) (c .if2 .left))
+    refuses _ (illegal-update-6 controller _ _ _ count (same phase-at if1) (c .if2 .left))
 
 pub illegal-update-spec : {M : Type 1} → statement M
 illegal-update-spec =

@@ -10,7 +10,7 @@ use Rattle.area.specs.Good.{stateIn}
 use Rattle.ways.proofs.Fields.{other, same}
 use Rattle.ways.proofs.Done.{refuses, leaves}
 use Rattle.ways.proofs.Known.{known}
-use Rattle.writing.proofs.Ways.{updated-stands, update-4, update-5, update-6, update-7, update-8, update-0}
+use Rattle.writing.proofs.Ways.{Asked, asked, Fits, fits, updated-stands, update-4, update-5, update-6, update-7, update-8, update-0}
 use Rattle.writing.proofs.Room.{writable-again}
 use Rattle.writing.proofs.update.Statement.{statement}
 use Rattle.writing.proofs.update.Tie as tie
@@ -35,7 +35,7 @@ returns-2 c =
     let phase-at = let c : tie.After-phase-at = search in c .phase-at .ensures in
     let if1 = let c : tie.Else1 = search in c .if1 .left in
     let count = let c : tie.After-count = search in c .count .ensures in
-    refuses _ (update-5 controller _ _ _ refl count (same phase-at if1) _ (c .if2 .taken))
+    refuses _ (update-5 controller _ _ _ count (same phase-at if1) _ (c .if2 .taken))
 
 kind-requires : tie.Need-kind-requires
 kind-requires c κs = search needs
@@ -49,16 +49,22 @@ legal-requires c κs = search needs
 same-length-3 : tie.Need-same-length-3
 same-length-3 c = search needs
 
-returns-3 : tie.Need-returns-3
-returns-3 c =
+-- what is known where the value was asked
+asked-at : (c : tie.After-legal) → let start = let c : tie.Start = search in c in
+    Asked (stateIn (start .args .s .now)) (start .args .i) (start .args .cell) 3 (start .args .to) (let c : tie.After-kind = search in c .kind .result) (let c : tie.After-word = search in c .word .result) (c .legal .result)
+asked-at c =
     let phase-at = let c : tie.After-phase-at = search in c .phase-at .ensures in
     let if1 = let c : tie.Else1 = search in c .if1 .left in
     let count = let c : tie.After-count = search in c .count .ensures in
     let if2 = let c : tie.Else2 = search in c .if2 .left in
     let kind = let c : tie.After-kind = search in c .kind .ensures in
     let word = let c : tie.After-word = search in c .word .ensures in
-    let legal = let c : tie.After-legal = search in c .legal .ensures in
-    refuses _ (update-6 controller _ _ _ refl count (same phase-at if1) if2 _ kind word legal (c .if3 .taken))
+    asked phase-at if1 count if2 kind word (c .legal .ensures)
+
+returns-3 : tie.Need-returns-3
+returns-3 c =
+    let asked = let c : tie.After-legal = search in asked-at c in
+    refuses _ (update-6 controller _ _ _ _ asked (c .if3 .taken))
 
 cell-at-requires : tie.Need-cell-at-requires
 cell-at-requires c κs =
@@ -72,16 +78,19 @@ same-length-4 c = search needs
 
 returns-4 : tie.Need-returns-4
 returns-4 c =
-    let phase-at = let c : tie.After-phase-at = search in c .phase-at .ensures in
-    let if1 = let c : tie.Else1 = search in c .if1 .left in
-    let count = let c : tie.After-count = search in c .count .ensures in
-    let if2 = let c : tie.Else2 = search in c .if2 .left in
-    let kind = let c : tie.After-kind = search in c .kind .ensures in
-    let word = let c : tie.After-word = search in c .word .ensures in
-    let legal = let c : tie.After-legal = search in c .legal .ensures in
+    let asked = let c : tie.After-legal = search in asked-at c in
     let if3 = let c : tie.Else3 = search in c .if3 .left in
     let cell-at = let c : tie.After-cell-at = search in c .cell-at .ensures in
-    refuses _ (update-7 controller _ _ _ refl count (same phase-at if1) if2 _ kind word legal if3 cell-at (c .if4 .taken))
+    refuses _ (update-7 controller _ _ _ _ asked if3 cell-at (c .if4 .taken))
+
+-- what is known where it was found to fit
+fits-at : (c : tie.Else4) → let start = let c : tie.Start = search in c in
+    Fits (stateIn (start .args .s .now)) (start .args .i) (start .args .cell) 3 (start .args .to) (let c : tie.After-word = search in c .word .result)
+fits-at c =
+    let asked = let c : tie.After-legal = search in asked-at c in
+    let if3 = let c : tie.Else3 = search in c .if3 .left in
+    let cell-at = let c : tie.After-cell-at = search in c .cell-at .ensures in
+    fits asked if3 cell-at (c .if4 .left)
 
 find-write-requires : tie.Need-find-write-requires
 find-write-requires c κs = search needs
@@ -97,18 +106,9 @@ same-length-5 c = search needs
 
 returns-5 : tie.Need-returns-5
 returns-5 c =
-    let phase-at = let c : tie.Else2 = search in let c : tie.After-phase-at = search in c .phase-at .ensures in
-    let if1 = let c : tie.Else2 = search in let c : tie.Else1 = search in c .if1 .left in
-    let count = let c : tie.Else2 = search in let c : tie.After-count = search in c .count .ensures in
-    let if2 = let c : tie.Else2 = search in c .if2 .left in
-    let kind = let c : tie.After-kind = search in c .kind .ensures in
-    let word = let c : tie.After-word = search in c .word .ensures in
-    let legal = let c : tie.After-legal = search in c .legal .ensures in
-    let if3 = let c : tie.Else3 = search in c .if3 .left in
-    let cell-at = let c : tie.After-cell-at = search in c .cell-at .ensures in
-    let if4 = let c : tie.Else4 = search in c .if4 .left in
+    let fits = let c : tie.Else4 = search in fits-at c in
     let find-write = let c : tie.After-find-write = search in c .find-write .ensures in
-    refuses _ (update-8 controller _ _ _ refl count (same phase-at if1) if2 _ kind word legal if3 cell-at if4 find-write (c .enum-told2 .given .1))
+    refuses _ (update-8 controller _ _ _ _ fits find-write (c .enum-told2 .given .1))
 
 writes-at-requires : tie.Need-writes-at-requires
 writes-at-requires c κs = search needs
@@ -141,25 +141,14 @@ same-length-6 c = search needs
 returns-6 : tie.Need-returns-6
 returns-6 c =
     let start = let c : tie.Else4 = search in let c : tie.After-phase-at = search in let c : tie.Start = search in c in
-    let phase-at = let c : tie.Else4 = search in let c : tie.After-phase-at = search in c .phase-at .ensures in
-    let if1 = let c : tie.Else4 = search in let c : tie.Else1 = search in c .if1 .left in
-    let count = let c : tie.Else4 = search in let c : tie.After-count = search in c .count .ensures in
-    let if2 = let c : tie.Else4 = search in let c : tie.Else2 = search in c .if2 .left in
-    let kind = let c : tie.Else4 = search in let c : tie.After-kind = search in c .kind .ensures in
-    let word = let c : tie.Else4 = search in let c : tie.After-word = search in c .word .ensures in
-    let legal = let c : tie.Else4 = search in let c : tie.After-legal = search in c .legal .ensures in
-    let if3 = let c : tie.Else4 = search in let c : tie.Else3 = search in c .if3 .left in
-    let cell-at = let c : tie.Else4 = search in let c : tie.After-cell-at = search in c .cell-at .ensures in
-    let if4 = let c : tie.Else4 = search in c .if4 .left in
+    let fits = let c : tie.Else4 = search in fits-at c in
     let find-write = let c : tie.After-find-write = search in c .find-write .ensures in
     let enum-told′ = let c : tie.After-enum-told = search in c .enum-told .given in
     let writes-at = let c : tie.After-writes-at = search in c .writes-at .ensures in
     let written = let c : tie.After-written = search in c .written .ensures in
     let store-writes = let c : tie.After-store-writes = search in c .store-writes .ensures in
-    let S = stateIn (start .args .s .now) in
-    let v = lay (slotAt S (start .args .i)) in
-    leaves _ (update-0 controller _ _ _ refl count (same phase-at if1) if2 _ kind word legal if3 cell-at if4 find-write (enum-told′ .1)
-    (written-alone v _ writes-at written)) store-writes
+    let v = lay (slotAt (stateIn (start .args .s .now)) (start .args .i)) in
+    leaves _ (update-0 controller _ _ _ _ fits find-write (enum-told′ .1) (written-alone v _ writes-at written)) store-writes
 
 pub update-spec : {M : Type 1} → statement M
 update-spec =

@@ -11,7 +11,7 @@ use Rattle.rules.proofs.AreaRead.{count-read}
 use Rattle.ways.proofs.Fields.{other, same}
 use Rattle.ways.proofs.Done.{refuses, leaves}
 use Rattle.ways.proofs.Known.{known}
-use Rattle.writing.proofs.Ways.{written-stands, write-4, write-5, write-6, write-7, write-9, write-0}
+use Rattle.writing.proofs.Ways.{Asked, asked, Fits, fits, written-stands, write-4, write-5, write-6, write-7, write-9, write-0}
 use Rattle.writing.proofs.Room.{writable}
 use Rattle.writing.proofs.write.Statement.{statement}
 use Rattle.writing.proofs.write.Tie as tie
@@ -36,7 +36,7 @@ returns-2 c =
     let phase-at = let c : tie.After-phase-at = search in c .phase-at .ensures in
     let if1 = let c : tie.Else1 = search in c .if1 .left in
     let count = let c : tie.After-count = search in c .count .ensures in
-    refuses _ (write-5 controller _ _ _ refl count (same phase-at if1) _ (c .if2 .taken))
+    refuses _ (write-5 controller _ _ _ count (same phase-at if1) _ (c .if2 .taken))
 
 kind-requires : tie.Need-kind-requires
 kind-requires c κs = search needs
@@ -50,16 +50,22 @@ legal-requires c κs = search needs
 same-length-3 : tie.Need-same-length-3
 same-length-3 c = search needs
 
-returns-3 : tie.Need-returns-3
-returns-3 c =
+-- what is known where the value was asked
+asked-at : (c : tie.After-legal) → let start = let c : tie.Start = search in c in
+    Asked (stateIn (start .args .s .now)) (start .args .i) (start .args .cell) 1 (start .args .v) (let c : tie.After-kind = search in c .kind .result) (let c : tie.After-word = search in c .word .result) (c .legal .result)
+asked-at c =
     let phase-at = let c : tie.After-phase-at = search in c .phase-at .ensures in
     let if1 = let c : tie.Else1 = search in c .if1 .left in
     let count = let c : tie.After-count = search in c .count .ensures in
     let if2 = let c : tie.Else2 = search in c .if2 .left in
     let kind = let c : tie.After-kind = search in c .kind .ensures in
     let word = let c : tie.After-word = search in c .word .ensures in
-    let legal = let c : tie.After-legal = search in c .legal .ensures in
-    refuses _ (write-6 controller _ _ _ refl count (same phase-at if1) if2 _ kind word legal (c .if3 .taken))
+    asked phase-at if1 count if2 kind word (c .legal .ensures)
+
+returns-3 : tie.Need-returns-3
+returns-3 c =
+    let asked = let c : tie.After-legal = search in asked-at c in
+    refuses _ (write-6 controller _ _ _ _ asked (c .if3 .taken))
 
 cell-at-requires : tie.Need-cell-at-requires
 cell-at-requires c κs =
@@ -72,16 +78,19 @@ same-length-4 c = search needs
 
 returns-4 : tie.Need-returns-4
 returns-4 c =
-    let phase-at = let c : tie.After-phase-at = search in c .phase-at .ensures in
-    let if1 = let c : tie.Else1 = search in c .if1 .left in
-    let count = let c : tie.After-count = search in c .count .ensures in
-    let if2 = let c : tie.Else2 = search in c .if2 .left in
-    let kind = let c : tie.After-kind = search in c .kind .ensures in
-    let word = let c : tie.After-word = search in c .word .ensures in
-    let legal = let c : tie.After-legal = search in c .legal .ensures in
+    let asked = let c : tie.After-legal = search in asked-at c in
     let if3 = let c : tie.Else3 = search in c .if3 .left in
     let cell-at = let c : tie.After-cell-at = search in c .cell-at .ensures in
-    refuses _ (write-7 controller _ _ _ refl count (same phase-at if1) if2 _ kind word legal if3 cell-at (c .if4 .taken))
+    refuses _ (write-7 controller _ _ _ _ asked if3 cell-at (c .if4 .taken))
+
+-- what is known where it was found to fit
+fits-at : (c : tie.Else4) → let start = let c : tie.Start = search in c in
+    Fits (stateIn (start .args .s .now)) (start .args .i) (start .args .cell) 1 (start .args .v) (let c : tie.After-word = search in c .word .result)
+fits-at c =
+    let asked = let c : tie.After-legal = search in asked-at c in
+    let if3 = let c : tie.Else3 = search in c .if3 .left in
+    let cell-at = let c : tie.After-cell-at = search in c .cell-at .ensures in
+    fits asked if3 cell-at (c .if4 .left)
 
 no-room-requires : tie.Need-no-room-requires
 no-room-requires c κs = search needs
@@ -91,18 +100,9 @@ same-length-5 c = search needs
 
 returns-5 : tie.Need-returns-5
 returns-5 c =
-    let phase-at = let c : tie.After-count = search in let c : tie.After-phase-at = search in c .phase-at .ensures in
-    let if1 = let c : tie.After-count = search in let c : tie.Else1 = search in c .if1 .left in
-    let count = let c : tie.After-count = search in c .count .ensures in
-    let if2 = let c : tie.Else2 = search in c .if2 .left in
-    let kind = let c : tie.After-kind = search in c .kind .ensures in
-    let word = let c : tie.After-word = search in c .word .ensures in
-    let legal = let c : tie.After-legal = search in c .legal .ensures in
-    let if3 = let c : tie.Else3 = search in c .if3 .left in
-    let cell-at = let c : tie.After-cell-at = search in c .cell-at .ensures in
-    let if4 = let c : tie.Else4 = search in c .if4 .left in
+    let fits = let c : tie.Else4 = search in fits-at c in
     let no-room = let c : tie.After-no-room = search in c .no-room .ensures in
-    refuses _ (write-9 controller _ _ _ refl count (same phase-at if1) if2 _ kind word legal if3 cell-at if4 no-room (c .if5 .taken))
+    refuses _ (write-9 controller _ _ _ _ fits no-room (c .if5 .taken))
 
 writes-at-requires : tie.Need-writes-at-requires
 writes-at-requires c κs = search needs
@@ -132,25 +132,15 @@ same-length-6 c = search needs
 
 returns-6 : tie.Need-returns-6
 returns-6 c =
-    let start = let c : tie.After-cell-at = search in let c : tie.After-phase-at = search in let c : tie.Start = search in c in
-    let phase-at = let c : tie.After-cell-at = search in let c : tie.After-phase-at = search in c .phase-at .ensures in
-    let if1 = let c : tie.After-cell-at = search in let c : tie.Else1 = search in c .if1 .left in
-    let count = let c : tie.After-cell-at = search in let c : tie.After-count = search in c .count .ensures in
-    let if2 = let c : tie.After-cell-at = search in let c : tie.Else2 = search in c .if2 .left in
-    let kind = let c : tie.After-cell-at = search in let c : tie.After-kind = search in c .kind .ensures in
-    let word = let c : tie.After-cell-at = search in let c : tie.After-word = search in c .word .ensures in
-    let legal = let c : tie.After-cell-at = search in let c : tie.After-legal = search in c .legal .ensures in
-    let if3 = let c : tie.After-cell-at = search in let c : tie.Else3 = search in c .if3 .left in
-    let cell-at = let c : tie.After-cell-at = search in c .cell-at .ensures in
-    let if4 = let c : tie.Else4 = search in c .if4 .left in
+    let start = let c : tie.Else4 = search in let c : tie.After-phase-at = search in let c : tie.Start = search in c in
+    let fits = let c : tie.Else4 = search in fits-at c in
     let no-room = let c : tie.After-no-room = search in c .no-room .ensures in
     let if5 = let c : tie.Else5 = search in c .if5 .left in
     let writes-at = let c : tie.After-writes-at = search in c .writes-at .ensures in
     let written = let c : tie.After-written = search in c .written .ensures in
     let store-writes = let c : tie.After-store-writes = search in c .store-writes .ensures in
     let v = lay (slotAt (stateIn (start .args .s .now)) (start .args .i)) in
-    leaves _ (write-0 controller _ _ _ refl count (same phase-at if1) if2 _ kind word legal if3 cell-at if4 no-room if5
-    (written-alone v _ writes-at written)) store-writes
+    leaves _ (write-0 controller _ _ _ _ fits no-room if5 (written-alone v _ writes-at written)) store-writes
 
 pub write-spec : {M : Type 1} → statement M
 write-spec =

@@ -5,7 +5,7 @@ use native.Mathlib.Omega.{arith}
 use borrow.Author.Needs.{needs}
 use borrow.Author.Tests.{ltb-true, ltb-false}
 use lib.ListN.{length, take, drop, length-take, length-map}
-use Rattle.slot.specs.Layout.{noRead}
+use Rattle.slot.specs.Layout.{readCapacity, noRead}
 use Rattle.slot.specs.Logic.{first}
 use Rattle.slot.specs.Logs.{someMarked}
 use Rattle.slot.specs.declared.ReadEntry.{ReadEntry}
@@ -15,10 +15,10 @@ use Rattle.slot.proofs.SlotRecord.some_marked.Tie as tie
 
 abbrev Inv-loop : tie.InvT-loop
 Inv-loop log count i₀ i =
-    (length log ≡ 16) × (first (λ (e : ReadEntry). e .mark) (take count log) ≡ first (λ (e : ReadEntry). e .mark) (drop i (take count log)))
+    (length log ≡ readCapacity) × (first (λ (e : ReadEntry). e .mark) (take count log) ≡ first (λ (e : ReadEntry). e .mark) (drop i (take count log)))
 
 abbrev μ-loop : tie.MeasureT-loop
-μ-loop log count i₀ i = 16 - i
+μ-loop log count i₀ i = readCapacity - i
 
 cast-count : tie.Need-cast-count Inv-loop μ-loop
 cast-count c = search needs
