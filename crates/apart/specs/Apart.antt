@@ -17,8 +17,8 @@ use Rattle.apart.specs.declared.Sheet.the-variants.{Good, Bad}
 abbrev pub byteAt : List ℕ → ℕ → ℕ
 byteAt s at = getD s at 0
 
-abbrev pub wordOf : List ℕ → ℕ
-wordOf s = fieldAt s 4 4
+abbrev pub stepWord : List ℕ → ℕ
+stepWord s = fieldAt s 4 4
 
 -- steps of 8 bytes, at most 4,096
 abbrev pub stepSize : ℕ

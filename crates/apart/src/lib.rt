@@ -3,7 +3,7 @@ ghost use mathlib.Core.Path.{_≡_};
 ghost use Prim.Native.Nat.{_<_};
 ghost use lib.ListN.{drop};
 ghost use Rattle.wire.specs.Field.{be};
-ghost use Rattle.apart.specs.Apart.{byteAt, wordOf, describedRight, stepsRight, takenApart};
+ghost use Rattle.apart.specs.Apart.{byteAt, stepWord, describedRight, stepsRight, takenApart};
 use fresh::DESCRIPTION;
 use fresh::MOST_CELLS;
 
@@ -53,7 +53,7 @@ fn pair(s: &[u8], at: usize) -> usize
 
 // The number in the four bytes from 4 on.
 pub fn word(s: &[u8]) -> u32
-    ensures { λ r. ⌜ r ≡ wordOf (now (s .entry)) ⌝ }
+    ensures { λ r. ⌜ r ≡ stepWord (now (s .entry)) ⌝ }
 {
     (pair(s, 4) * 65536 + pair(s, 6)) as u32
 }
