@@ -1,7 +1,7 @@
 -- What a call records in the history is what its move makes: a commit for a committing finish, a read for a first read, and nothing else.
 use mathlib.Core.Bool.{true, false, not, cond}
 use mathlib.Core.List.{List, [], _∷_}
-use mathlib.Core.Option.{none, some}
+use mathlib.Core.Option.{none}
 use mathlib.Core.Path.{_≡_, sym, _∙_, ap}
 use Prim.Native.Nat.{ℕ, pred, _<_}
 use native.Mathlib.Omega.{arith}

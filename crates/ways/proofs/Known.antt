@@ -19,7 +19,6 @@ use Rattle.rules.specs.State.{Slot, slotAt, readsOf, writesOf, startOf}
 use Rattle.rules.specs.LogsRight.{loggedRight, writesRight}
 use Rattle.rules.specs.Layout.{lay, countIn}
 use Rattle.rules.specs.Model.{controller}
-use Rattle.rules.specs.declared.Cell.{Cell}
 use Rattle.rules.proofs.LayView.{write-log}
 use Rattle.rules.proofs.StateSized.{LogsHold, slot-logs-hold}
 use Rattle.rules.proofs.AreaRead.{count-read}

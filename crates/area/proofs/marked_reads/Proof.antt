@@ -1,5 +1,5 @@
 -- `marked_reads` meets its contract: before each turn the array has the first `k` entries with their marks.
-use mathlib.Core.Path.{_≡_, refl, ap, _∙_}
+use mathlib.Core.Path.{_≡_, ap, _∙_}
 use Prim.Native.Nat.{_-_, _≤_}
 use native.Mathlib.Omega.{arith}
 use lib.ListN.{length}

@@ -1,6 +1,5 @@
 -- An update without a value is refused, by the lowest code that applies.
 use borrow.Author.Needs.{needs}
-use mathlib.Core.Path.{refl}
 use Rattle.rules.specs.Model.{controller}
 use Rattle.ways.proofs.Fields.{other, same}
 use Rattle.ways.proofs.Done.{refuses}
