@@ -43,7 +43,7 @@ test:
 	python3 tools/edit_logs.py texts
 	@echo "== the second program: its tests"
 	cd oracle && cargo test --release --offline --quiet
-	@echo "== proofs, must-fail edits, the library and what is linked with it (ten to twenty minutes)"
+	@echo "== proofs, must-fail edits, the library and what is linked with it (some ten minutes)"
 	@BEGAN=$(BEGAN) tools/gate
 
 lib:
