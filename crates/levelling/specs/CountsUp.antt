@@ -1,0 +1,86 @@
+-- Why a count can't fall. In document 01's words a commit has a stamp, a read log and a write log; the replay is what the cells hold once all commits up to a stamp are in.
+use mathlib.Core.Bool.{Bool, true, false}
+use mathlib.Core.List.{List, [], _∷_, _++_, map}
+use mathlib.Core.Option.{Option, none, some}
+use mathlib.Core.Path.{_≡_}
+use Prim.Native.Nat.{ℕ, suc, pred, _<_, _≤_}
+use lib.IntN.{ℤ, sucℤ}
+use lib.Signed.{_≤ℤ_}
+use lib.ListN.{getD}
+use mir.Syntax.{w32}
+use mir.Val.{toZ}
+use Rattle.wire.specs.Field.{Bytes}
+use Rattle.slot.specs.declared.ReadEntry.{ReadEntry}
+use Rattle.slot.specs.declared.WriteEntry.{WriteEntry}
+use Rattle.slot.specs.Logic.{All}
+use Rattle.slot.specs.Logs.{writesCell}
+use Rattle.rules.specs.Model.{Model}
+use Rattle.rules.specs.State.{State, cellAt}
+use Rattle.rules.specs.StateRight.{stateAtRest}
+use Rattle.rules.specs.Step.{Call, step}
+use Rattle.rules.specs.Layout.{stateOf}
+use Rattle.rules.specs.Area.{atRest}
+use Rattle.history.specs.History.{Event, history, final, Commit, commits, replay}
+use Rattle.history.specs.AreaHistory.{areaHistory}
+use Rattle.history.specs.Keeps.{bytesAfter}
+use Rattle.pick.specs.Groups.{erasesPlace, erases, lastCount}
+use Rattle.pick.specs.Pick.{negativeAt, picked}
+use Rattle.wear.specs.WearSet.{groupCount}
+
+-- the words of a read log, and its cells
+abbrev pub wordsRead : List ReadEntry → List ℕ
+wordsRead reads = map (λ (e : ReadEntry). e .word) reads
+
+abbrev pub cellsRead : List ReadEntry → List ℕ
+cellsRead reads = map (λ (e : ReadEntry). e .cell) reads
+
+-- Two logs *level* a set, with group g: the reads are the operation's (cells and words, marks aside), and the one write is what the pick rule gives for those words.
+-- Nothing else is asked: who made the logs, and how, is left open. So the operation levels, and so does a reload with the right update.
+pub record LevelsWith (set : List ℕ) (g : ℕ) (reads : List ReadEntry) (writes : List WriteEntry) : Type 0 where
+  pub cells : cellsRead reads ≡ set
+  pub sound : negativeAt (wordsRead reads) (groupCount set) ≡ none
+  pub pick : picked (wordsRead reads) (groupCount set) ≡ some g
+  pub write : writes ≡ (record { cell = getD set (erasesPlace g) 0; word = suc (erases (wordsRead reads) g) } ∷ [])
+
+-- a commit levels, for some set and some group
+abbrev pub Levels : Commit → Type 0
+Levels x = (set : List ℕ) × (g : ℕ) × LevelsWith set g (x .reads) (x .writes)
+
+-- a count as the signed number that it is
+abbrev pub signed : ℕ → ℤ
+signed word = toZ w32 word
+
+-- between the replay just before a stamp and the replay with it, cell c is raised by exactly one, and no other cell changes
+pub record RaisesOne (S : State) (events : List Event) (stamp c : ℕ) : Type 0 where
+  pub below : replay S events (pred stamp) c < lastCount
+  pub raised : replay S events stamp c ≡ suc (replay S events (pred stamp) c)
+  pub raisedSigned : signed (replay S events stamp c) ≡ sucℤ (signed (replay S events (pred stamp) c))
+  pub others : (d : ℕ) → (d ≡ c → ⊥) → replay S events stamp d ≡ replay S events (pred stamp) d
+
+-- every commit that writes cell c levels, and ignored no mark
+abbrev pub OnlyLevelled : List Event → ℕ → Type 0
+OnlyLevelled events c = All (λ (x : Commit). writesCell (x .writes) c ≡ true → Levels x × (x .ignoring ≡ false)) (commits events)
+
+-- of a history from state S
+pub record CountsUp (S : State) (events : List Event) : Type 0 where
+  -- A commit that levels and ignored no mark raises the picked group's count by exactly one over what the replay holds just before its stamp, and changes no
+  -- other cell.
+  pub countsUp :
+      All (λ (x : Commit). (set : List ℕ) (g : ℕ) → LevelsWith set g (x .reads) (x .writes) → x .ignoring ≡ false
+      → RaisesOne S events (x .stamp) (getD set (erasesPlace g) 0)) (commits events)
+  -- If every commit that writes a cell levels and ignored no mark, then the replay of that cell never falls from one stamp to a later one.
+  pub replayNeverFalls : (c : ℕ) → OnlyLevelled events c → (a b : ℕ) → a ≤ b → signed (replay S events a c) ≤ℤ signed (replay S events b c)
+
+-- .. and the cell itself, after any call, is at least what it was after any earlier call, whatever the tasks interleave
+pub record NeverFalls (M : Model) : Type 0 where
+  pub ofStates : (S : State) → stateAtRest M S ≡ true → (earlier later : List Call) (c : ℕ)
+      → OnlyLevelled (history (step M) S (earlier ++ later)) c
+      → signed (cellAt (final (step M) S earlier) c .word) ≤ℤ signed (cellAt (final (step M) S (earlier ++ later)) c .word)
+  pub ofAreas : (a : List ℕ) → Bytes a → atRest M a ≡ true → (earlier later : List Call) (c : ℕ)
+      → OnlyLevelled (areaHistory M a (earlier ++ later)) c
+      → signed (cellAt (stateOf M (bytesAfter M a earlier)) c .word) ≤ℤ signed (cellAt (stateOf M (bytesAfter M a (earlier ++ later))) c .word)
+
+-- from rest, for any calls
+pub record CountsUpFromRest (M : Model) : Type 0 where
+  pub ofStates : (S : State) → stateAtRest M S ≡ true → (calls : List Call) → CountsUp S (history (step M) S calls)
+  pub ofAreas : (a : List ℕ) → Bytes a → atRest M a ≡ true → (calls : List Call) → CountsUp (stateOf M a) (areaHistory M a calls)

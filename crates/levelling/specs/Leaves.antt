@@ -1,0 +1,57 @@
+-- What the reads give, and what the operation leaves in the transaction's logs.
+use mathlib.Core.Bool.{Bool, true, false}
+use mathlib.Core.List.{List, [], _∷_, map}
+use mathlib.Core.Option.{Option, none, some}
+use mathlib.Core.Path.{_≡_}
+use Prim.Native.Nat.{ℕ, suc, pred, _<_, _≤_}
+use lib.ListN.{length, getD, take}
+use Rattle.call.specs.declared.Reply.{Reply}
+use Rattle.call.specs.Answer.{replyCode}
+use Rattle.slot.specs.declared.ReadEntry.{ReadEntry}
+use Rattle.slot.specs.declared.WriteEntry.{WriteEntry}
+use Rattle.slot.specs.Logic.{_or_, All}
+use Rattle.rules.specs.Model.{Model}
+use Rattle.rules.specs.State.{State, opened, cellAt, slotAt, startOf, turn}
+use Rattle.rules.specs.StateRight.{stateRight}
+use Rattle.rules.specs.Cells.{heldByOther, newer}
+use Rattle.pick.specs.Groups.{erasesPlace, erases}
+use Rattle.pick.specs.Pick.{negativeAt, picked}
+use Rattle.wear.specs.WearSet.{groupCount}
+use Rattle.wear.specs.Wear.{going, stopped, readFirst, wear}
+use Rattle.levelling.specs.AsCalls.{admitted}
+
+-- the read log's entry of a cell that is read, and the words of cells
+abbrev pub entryOf : State → ℕ → ReadEntry
+entryOf S c = record { cell = c; mark = false; word = cellAt S c .word }
+
+abbrev pub wordsOf : State → List ℕ → List ℕ
+wordsOf S cells = map (λ c. cellAt S c .word) cells
+
+-- the state with these logs in the slot, and nothing else changed
+abbrev pub withLogs : State → ℕ → List ℕ → List WriteEntry → State
+withLogs S slot cells writes =
+    turn S (pred slot) (S .clock) (S .cells) (opened (startOf (slotAt S (pred slot))) (map (entryOf S) cells) writes)
+
+-- the cell can't be read: another slot holds it, or it has a stamp above the transaction's start
+abbrev pub inTheWay : State → ℕ → ℕ → Bool
+inTheWay S slot c = heldByOther (pred slot) (cellAt S c) or newer (startOf (slotAt S (pred slot))) (cellAt S c)
+
+pub record Leaves (M : Model) : Type 0 where
+  -- All cells are read: the words are the shared cells', every cell is in the read log, and nothing is written.
+  pub allRead : (S : State) (set : List ℕ) (slot : ℕ) (words : List ℕ) (T : State) → stateRight M S ≡ true → admitted M S set slot ≡ true
+      → readFirst M S slot set (length set) ≡ going words T → (words ≡ wordsOf S set) × (T ≡ withLogs S slot set [])
+  -- A read is refused: its code is 10, at the first cell of the set that can't be read, and the reads before it stay in the log.
+  pub refusedRead : (S : State) (set : List ℕ) (slot place : ℕ) (reply : Reply) (T : State) → stateRight M S ≡ true → admitted M S set slot ≡ true
+      → readFirst M S slot set (length set) ≡ stopped place reply T
+      → (replyCode reply ≡ 10)
+      × (place < length set)
+      × (inTheWay S slot (getD set place 0) ≡ true)
+      × ((earlier : ℕ) → earlier < place → inTheWay S slot (getD set earlier 0) ≡ false)
+      × (T ≡ withLogs S slot (take place set) [])
+  -- A group is picked: its write is done. The log has the one entry.
+  pub written : (S : State) (set : List ℕ) (slot : ℕ) → stateRight M S ≡ true → admitted M S set slot ≡ true → wear M S set slot .code ≡ 0
+      → let g = wear M S set slot .word in
+      (picked (wordsOf S set) (groupCount set) ≡ some g)
+      × (negativeAt (wordsOf S set) (groupCount set) ≡ none)
+      × (wear M S set slot .state
+      ≡ withLogs S slot set (record { cell = getD set (erasesPlace g) 0; word = suc (erases (wordsOf S set) g) } ∷ []))

@@ -1,0 +1,5 @@
+pub mod AsCalls
+pub mod Leaves
+pub mod Refuses
+pub mod CountsUp
+pub mod AtC

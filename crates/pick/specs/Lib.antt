@@ -1,0 +1,4 @@
+pub mod Groups
+pub mod Pick
+pub mod Found
+pub mod PicksRight

@@ -1,0 +1,4 @@
+pub mod WearSet
+pub mod Wear
+pub mod OnBytes
+pub mod Contract
