@@ -30,7 +30,7 @@ no-step : (S : State) (slot : ℕ) (d : Decoded) → d ≡ Unknown → refused N
 unfolding stepOf
 no-step S slot d e = rw e
 
-by-number : (S : State) (a : Call) → step controller S a ≡ stepOf controller S (a .slot) (decoded (a .step) (a .cell) (a .kind) (a .word))
+pub by-number : (S : State) (a : Call) → step controller S a ≡ stepOf controller S (a .slot) (decoded (a .step) (a .cell) (a .kind) (a .word))
 unfolding step
 by-number S a = by (leb 1 (a .step) and leb (a .step) 14) refl
   where

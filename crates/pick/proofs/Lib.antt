@@ -1,3 +1,4 @@
 pub mod PicksRight
 pub mod Searches
 pub mod Unique
+pub mod Alike
