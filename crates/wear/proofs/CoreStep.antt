@@ -38,9 +38,9 @@ after-in : (l : List ℕ) → Good l → (o : Outcome) → stateRight controller
     → Good (answered controller l o .bytes) × (stateIn (answered controller l o .bytes) ≡ after (stateIn l) o)
 after-in l good (refused r) right = (good, refl)
 after-in l good (accepted r T) right = (
-      good-of (pack controller T) (round-trip controller controller-fits .packBytes T right) (pack-right controller controller-fits T right),
-      state-back controller controller-fits T right,
-    )
+  good-of (pack controller T) (round-trip controller controller-fits .packBytes T right) (pack-right controller controller-fits T right),
+  state-back controller controller-fits T right,
+)
 
 module _ (l : List ℕ) (good : Good l) (a : Call) where
   kept : stateRight controller (after (stateIn l) (step controller (stateIn l) a)) ≡ true

@@ -3,3 +3,5 @@ pub mod Reading
 pub mod GroupReads
 pub mod Judging
 pub mod Levels
+pub mod Before
+pub mod Boundary

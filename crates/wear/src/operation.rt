@@ -9,12 +9,12 @@ ghost use Rattle.pick.specs.Groups.{erases, lastCount};
 ghost use Rattle.wear.specs.WearSet.{groupCount};
 ghost use Rattle.wear.specs.Wear.{going, readAt, readFirst, writing, judged, levelling};
 ghost use Rattle.wear.specs.Reached.{Reached, Comes};
-use call::Decoded;
-use call::Reply;
-use call::Step;
 use crate::CODE;
 use crate::KIND;
 use crate::PLACE;
+use call::Decoded;
+use call::Reply;
+use call::Step;
 
 // Reads the cell at a place of the set, and keeps its word. Answers 0, or the core's refusal with its place.
 fn read_place(s: &mut [u8], slot: u8, set: &[u8], place: usize, words: &mut [u32]) -> u64
@@ -31,7 +31,14 @@ fn read_place(s: &mut [u8], slot: u8, set: &[u8], place: usize, words: &mut [u32
 }
 
 // Reads the two cells of a group: the truth cell, then the erases cell.
-fn read_two(s: &mut [u8], slot: u8, set: &[u8], truth: usize, erases: usize, words: &mut [u32]) -> u64
+fn read_two(
+    s: &mut [u8],
+    slot: u8,
+    set: &[u8],
+    truth: usize,
+    erases: usize,
+    words: &mut [u32],
+) -> u64
     requires { ⌜ Good (now s) × (erases < length (now set)) × (length (now set) ≤ 16) × (length (now words) ≡ 16) ⌝ }
     requires { ⌜ erases ≡ truth + 1 ⌝ }
     ensures { λ r. ⌜ Reached (readAt controller slot (now (set .entry)) erases (readAt controller slot (now (set .entry)) truth (going (take truth (now (words .entry))) (stateIn (now (s .entry)))))) r (now (s .exit)) (now (words .exit)) ⌝ }

@@ -14,7 +14,10 @@ const LONGEST: usize = 16;
 fn length_right(n: usize) -> bool
     ensures { λ r. ⌜ r ≡ setLengthRight n ⌝ }
 {
-    n % 2 == 0 && 1 <= n && n <= LONGEST
+    if n % 2 != 0 {
+        return false;
+    }
+    1 <= n && n <= LONGEST
 }
 
 // Whether a cell is there, and of the kind that the place asks for.
@@ -61,5 +64,8 @@ pub fn open_and_empty(s: &[u8], i: u8) -> bool
     ensures { λ r. ⌜ r ≡ openAndEmpty (slotAt (stateIn (now (s .entry))) i) ⌝ }
 {
     let v = area::fields_at(s, i);
-    v.phase == 1 && v.readcount == 0 && v.writecount == 0
+    if v.phase != 1 {
+        return false;
+    }
+    v.readcount == 0 && v.writecount == 0
 }

@@ -1,35 +1,37 @@
+use native.Mathlib.Omega.{arith}
+use Rattle.rules.specs.Model.{controller}
+use Rattle.rules.proofs.AreaRead.{count-read}
+use Rattle.wear.proofs.Before.{no-cell, by-kind}
 use borrow.Author.Needs.{needs}
 use Rattle.wear.proofs.sets.cell_fits.Statement.{statement}
 use Rattle.wear.proofs.sets.cell_fits.Tie as tie
-use Rattle.wear.proofs.sets.cell_fits.Reads as reads
-use Rattle.wear.proofs.sets.cell_fits.Lts as lts
-use Rattle.area.proofs.cell_at.Reads as cell-at-reads
-use Rattle.area.proofs.count.Reads as count-reads
-use Rattle.logcheck.proofs.index.Reads as index-reads
 
--- src/sets.rt:25:8
 count-requires : tie.Need-count-requires
 count-requires c κs = search needs
 
--- src/sets.rt:26:9
 returns : tie.Need-returns
-returns c = ?
+returns c =
+    let count = let c : tie.After-count = search in c .count .ensures in
+    no-cell _ _ _ _ count (c .if1 .taken)
 
--- src/sets.rt:28:9
 cell-at-requires : tie.Need-cell-at-requires
-cell-at-requires c κs = ?
+cell-at-requires c κs =
+    let start = let c : tie.Start = search in c in
+    let count = let c : tie.After-count = search in c .count .ensures in
+    (start .pre, rw (← count-read controller _) (omega (arith, count)))
 
--- src/sets.rt:29:5
 index-requires : tie.Need-index-requires
 index-requires c κs = search needs
 
--- src/sets.rt:29:22
 add-result : tie.Need-add-result
 add-result c = search needs
 
--- src/sets.rt:21:1
 returns-2 : tie.Need-returns-2
-returns-2 c = ?
+returns-2 c =
+    let x = let c : tie.After-cell-at = search in c .cell-at .ensures in
+    let inside = let c : tie.Else1 = search in c .if1 .left in
+    let count = let c : tie.After-count = search in c .count .ensures in
+    by-kind _ _ _ _ _ _ count inside x (c .index .ensures .0)
 
 pub cell-fits-spec : {M : Type 1} → statement M
 cell-fits-spec =

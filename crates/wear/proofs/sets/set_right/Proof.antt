@@ -1,72 +1,125 @@
+-- Before each turn the places passed are right, and `seen` is 0 at exactly the cells that none of them has.
+use mathlib.Core.Bool.{true}
+use mathlib.Core.Path.{_≡_, refl, sym, _∙_}
+use Prim.Native.Nat.{ℕ, _-_, _≤_, _<_}
+use native.Mathlib.Omega.{arith}
+use borrow.Author.Needs.{needs}
+use borrow.Author.Tests.{eq-eqb, ne-eqb}
+use lib.Dec.{eqb}
+use lib.ListN.{length, getD, length-set}
+use Rattle.slot.specs.Logic.{every}
+use Rattle.area.specs.Good.{stateIn}
+use Rattle.logcheck.proofs.Chains.{stop, fails, passes, every-start, every-next}
+use Rattle.logcheck.proofs.LogLaws.{apart, seen-start, seen-next}
+use Rattle.wear.specs.WearSet.{placeRight, setRight}
+use Rattle.wear.proofs.Before.{inside-64, set-wrong, set-whole, place-unfit, place-twice, place-fits}
 use Rattle.wear.proofs.sets.set_right.Statement.{statement}
 use Rattle.wear.proofs.sets.set_right.Tie as tie
-use Rattle.wear.proofs.sets.set_right.Reads as reads
-use Rattle.wear.proofs.sets.set_right.Lts as lts
-use Rattle.logcheck.proofs.index.Reads as index-reads
-use Rattle.wear.proofs.sets.cell_fits.Reads as cell-fits-reads
-use Rattle.wear.proofs.sets.length_right.Reads as length-right-reads
 
 abbrev Inv-loop : tie.InvT-loop
-Inv-loop s set n seen₀ place₀ seen place = ?
+Inv-loop s set n seen₀ place₀ seen place = (place ≤ n)
+    × (length seen ≡ 64)
+    × (every place (placeRight (stateIn s) set) ≡ true)
+    × ((x : ℕ) → x < 64 → eqb (getD seen x 0) 0 ≡ every place (λ k. apart (getD set k 0) x))
 
 abbrev μ-loop : tie.MeasureT-loop
-μ-loop s set n seen₀ place₀ seen place = ?
+μ-loop s set n seen₀ place₀ seen place = n - place
 
--- src/sets.rt:38:9
 length-right-requires : tie.Need-length-right-requires Inv-loop μ-loop
-length-right-requires c κs = ?
+length-right-requires c κs = search needs
 
--- src/sets.rt:39:9
 returns : tie.Need-returns Inv-loop μ-loop
-returns c = ?
+unfolding setRight
+returns c =
+    let right = let c : tie.After-length-right Inv-loop μ-loop = search in c .length-right .ensures in
+    stop _ _ _ (fails right (c .if1 .taken)) refl
 
--- src/sets.rt:43:5
 loop-holds : tie.Need-loop-holds Inv-loop μ-loop
-loop-holds c = ?
+loop-holds c =
+    let start = let c : tie.Start Inv-loop μ-loop = search in c in
+    (omega arith, refl, every-start _, seen-start (λ k. getD (start .args .set .now) k 0))
 
--- src/sets.rt:44:17
 shared-slice-read-c : tie.Need-shared-slice-read-c Inv-loop μ-loop
-shared-slice-read-c c = ?
+shared-slice-read-c c = omega arith
 
--- src/sets.rt:45:13
 cell-fits-requires : tie.Need-cell-fits-requires Inv-loop μ-loop
-cell-fits-requires c κs = ?
+cell-fits-requires c κs =
+    let start = let c : tie.Start Inv-loop μ-loop = search in c in
+    start .pre
 
--- src/sets.rt:46:13
 returns-2 : tie.Need-returns-2 Inv-loop μ-loop
-returns-2 c = ?
+returns-2 c =
+    let start = let c : tie.Start Inv-loop μ-loop = search in c in
+    let loop = let c : tie.At-loop Inv-loop μ-loop = search in c .loop in
+    let fits = let c : tie.After-cell-fits Inv-loop μ-loop = search in c .cell-fits .ensures in
+    let right = let c : tie.After-length-right Inv-loop μ-loop = search in c .length-right .ensures in
+    let passed = let c : tie.Else1 Inv-loop μ-loop = search in c .if1 .left in
+    set-wrong _ _ (passes right passed) (loop .place) (omega arith) (place-unfit _ _ _ _ refl (fails fits (c .if2 .taken)))
 
--- src/sets.rt:48:13
 index-requires : tie.Need-index-requires Inv-loop μ-loop
-index-requires c κs = ?
+index-requires c κs = omega arith
 
--- src/sets.rt:49:12
 array-read-if3 : tie.Need-array-read-if3 Inv-loop μ-loop
-array-read-if3 c = ?
+array-read-if3 c =
+    let start = let c : tie.Start Inv-loop μ-loop = search in c in
+    let loop = let c : tie.At-loop Inv-loop μ-loop = search in c .loop in
+    let fits = let c : tie.After-cell-fits Inv-loop μ-loop = search in c .cell-fits .ensures in
+    let fit = let c : tie.Else2 Inv-loop μ-loop = search in c .if2 .left in
+    let at = let c : tie.After-index Inv-loop μ-loop = search in c .index in
+    let inside = inside-64 _ _ _ (start .pre) (passes fits fit) in
+    omega (arith, at .ensures .0)
 
--- src/sets.rt:50:13
 returns-3 : tie.Need-returns-3 Inv-loop μ-loop
-returns-3 c = ?
+returns-3 c =
+    let start = let c : tie.Start Inv-loop μ-loop = search in c in
+    let loop = let c : tie.At-loop Inv-loop μ-loop = search in c .loop in
+    let fits = let c : tie.After-cell-fits Inv-loop μ-loop = search in c .cell-fits .ensures in
+    let right = let c : tie.After-length-right Inv-loop μ-loop = search in c .length-right .ensures in
+    let passed = let c : tie.Else1 Inv-loop μ-loop = search in c .if1 .left in
+    let fit = let c : tie.Else2 Inv-loop μ-loop = search in c .if2 .left in
+    let at = let c : tie.After-index Inv-loop μ-loop = search in c .index in
+    let inside = inside-64 _ _ _ (start .pre) (passes fits fit) in
+    set-wrong _ _ (passes right passed) (loop .place) (omega arith)
+    (place-twice _ _ _ _ (at .ensures .0) _ (loop .inv .3 (at .result) (omega (arith, at .ensures .0))) (ne-eqb _ _ (c .if3 .taken)))
 
--- src/sets.rt:52:9
 array-write-seen : tie.Need-array-write-seen Inv-loop μ-loop
-array-write-seen c = ?
+array-write-seen c =
+    let start = let c : tie.Start Inv-loop μ-loop = search in c in
+    let loop = let c : tie.At-loop Inv-loop μ-loop = search in c .loop in
+    let fits = let c : tie.After-cell-fits Inv-loop μ-loop = search in c .cell-fits .ensures in
+    let fit = let c : tie.Else2 Inv-loop μ-loop = search in c .if2 .left in
+    let at = let c : tie.After-index Inv-loop μ-loop = search in c .index in
+    let inside = inside-64 _ _ _ (start .pre) (passes fits fit) in
+    omega (arith, at .ensures .0)
 
--- src/sets.rt:53:9
 add-place : tie.Need-add-place Inv-loop μ-loop
-add-place c = ?
+add-place c = omega arith
 
--- src/sets.rt:43:5
 loop-less : tie.Need-loop-less Inv-loop μ-loop
-loop-less c = ?
+loop-less c = omega arith
 
--- src/sets.rt:43:5
 loop-again : tie.Need-loop-again Inv-loop μ-loop
-loop-again c = ?
+loop-again c =
+    let start = let c : tie.Start Inv-loop μ-loop = search in c in
+    let loop = let c : tie.At-loop Inv-loop μ-loop = search in c .loop in
+    let fits = let c : tie.After-cell-fits Inv-loop μ-loop = search in c .cell-fits .ensures in
+    let fit = let c : tie.Else2 Inv-loop μ-loop = search in c .if2 .left in
+    let at = let c : tie.After-index Inv-loop μ-loop = search in c .index in
+    let inside = inside-64 _ _ _ (start .pre) (passes fits fit) in
+    let set = start .args .set .now in (
+      omega arith,
+      simp length-set (loop .inv .1),
+      every-next (placeRight _ set) (loop .place) (loop .inv .2)
+          (place-fits _ set (loop .place) (at .result) (at .ensures .0) _ (loop .inv .3 (at .result) (omega (arith, at .ensures .0))) (rw (← at .ensures .0) at (passes fits fit)) (eq-eqb _ _ (c .if3 .left))),
+      seen-next (λ k. getD set k 0) (loop .seen) (loop .place) (at .result) (loop .inv .1) (omega (arith, at .ensures .0)) (at .ensures .0) (loop .inv .3),
+    )
 
--- src/sets.rt:33:1
 returns-4 : tie.Need-returns-4 Inv-loop μ-loop
-returns-4 c = ?
+returns-4 c =
+    let loop = let c : tie.At-loop Inv-loop μ-loop = search in c .loop in
+    let right = let c : tie.After-length-right Inv-loop μ-loop = search in c .length-right .ensures in
+    let passed = let c : tie.Else1 Inv-loop μ-loop = search in c .if1 .left in
+    set-whole _ _ (passes right passed) (loop .place) (omega arith) (loop .inv .2)
 
 pub set-right-spec : {M : Type 1} → statement M
 set-right-spec =
