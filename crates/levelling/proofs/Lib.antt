@@ -1,2 +1,4 @@
 pub mod Cases
 pub mod AsCalls
+pub mod ReadLaws
+pub mod Leaves
