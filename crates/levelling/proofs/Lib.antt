@@ -2,3 +2,4 @@ pub mod Cases
 pub mod AsCalls
 pub mod ReadLaws
 pub mod Leaves
+pub mod Refuses
