@@ -3,3 +3,4 @@ pub mod AsCalls
 pub mod ReadLaws
 pub mod Leaves
 pub mod Refuses
+pub mod AtC
