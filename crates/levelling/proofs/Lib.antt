@@ -1,2 +1,4 @@
 pub mod SignedWords
 pub mod CountsUp
+pub mod StampsRise
+pub mod NeverFalls
