@@ -1,1 +1,2 @@
 pub mod PicksRight
+pub mod Searches
