@@ -1,5 +1,5 @@
 -- What the operation does is what a list of core calls does. A read that is refused leaves the state, so it may stand in the list.
-use mathlib.Core.Bool.{Bool, true, false, not, cond, false≢true}
+use mathlib.Core.Bool.{Bool, false, not, cond, false≢true}
 use mathlib.Core.List.{List, [], _∷_, _++_, map, map-append}
 use mathlib.Core.Option.{Option, none, some}
 use mathlib.Core.Path.{_≡_, refl, sym, _∙_, ap}
@@ -33,7 +33,7 @@ use Rattle.pick.specs.Pick.{negativeAt, picked}
 use Rattle.wear.specs.WearSet.{groupCount}
 use Rattle.wear.specs.Wear.{readOf, Reading, going, stopped, readAt, readFirst, Levelled, writing, judging, levelling, wear}
 use Rattle.wear.specs.OnBytes.{LevelledArea, wearOnBytes}
-use Rattle.levelling.specs.AsCalls.{writePicked, writeIfSound, callsMade, admitted, wearCalls, AsCalls}
+use Rattle.levelling.specs.AsCalls.{writePicked, writeIfSound, callsMade, wearCalls, AsCalls}
 use Rattle.levelling.proofs.Cases.{wear-case}
 
 -- a code other than 0 leaves the state

@@ -7,12 +7,11 @@ use Prim.Native.Nat.{ℕ, zero, suc, pred, _^_, _<_, _≤_}
 use native.Mathlib.Omega.{arith}
 use borrow.Author.Count.{below-more}
 use borrow.Author.Tests.{lt-ltb}
-use lib.Dec.{eqb, ltb}
+use lib.Dec.{eqb}
 use lib.ListN.{length, getD, take}
 use lib.Seq.{take-length}
 use Rattle.value.specs.Legal.{legalWord}
 use Rattle.value.proofs.RoundTrip.{word-back}
-use Rattle.call.specs.declared.Reply.{Reply}
 use Rattle.call.specs.declared.Reply.the-variants.{ReadHeld, ReadNewer}
 use Rattle.call.specs.Answer.{replyCode, replyWord}
 use Rattle.slot.specs.Logic.{_or_}
@@ -26,10 +25,10 @@ use Rattle.pick.specs.Groups.{erasesPlace, erases}
 use Rattle.pick.specs.Pick.{negativeAt, picked}
 use Rattle.pick.proofs.PicksRight.{picks-right}
 use Rattle.wear.specs.WearSet.{groupCount}
-use Rattle.wear.specs.Wear.{Reading, going, stopped, readAt, readFirst, Levelled, writing, judging, levelling, wear}
+use Rattle.wear.specs.Wear.{Reading, going, stopped, readAt, readFirst, Levelled, writing, judging, levelling}
 use Rattle.levelling.specs.AsCalls.{admitted}
-use Rattle.levelling.specs.Leaves.{entryOf, wordsOf, withLogs, inTheWay, Leaves}
-use Rattle.levelling.proofs.Cases.{begun, begins}
+use Rattle.levelling.specs.Leaves.{wordsOf, withLogs, inTheWay, Leaves}
+use Rattle.levelling.proofs.Cases.{begins}
 use Rattle.levelling.proofs.ReadLaws.{Begun, is-begun, count-write, slot-with, logs-anew, no-logs, map-next, read-next}
 
 module _ (S : State) (set : List ℕ) (slot : ℕ) where
@@ -105,14 +104,13 @@ module _ (M : Model) (S : State) (set : List ℕ) (slot : ℕ) (b : Begun M S se
       let count = suc (erases words g) in
       let inside : erasesPlace g < length set = let few = least .inside in omega arith in
       let kind : cellAt S (getD set (erasesPlace g) 0) .kind ≡ 2 = b .cell-kind (erasesPlace g) inside ∙ omega arith in
-      let legal : legalWord 2 count ≡ true = let below = least .below in lt-ltb count (2 ^ 32) (omega arith) in
-      (
+      let legal : legalWord 2 count ≡ true = let below = least .below in lt-ltb count (2 ^ 32) (omega arith) in (
         p,
         sound,
         ap (after (withLogs S slot set []))
-        (count-write M (withLogs S slot set []) slot (getD set (erasesPlace g) 0) count _ _ (b .slot-inside) (slot-with M S set slot b set [])
-        (b .cell-inside (erasesPlace g) inside) kind legal)
-        ∙ logs-anew M S set slot b set set (record { cell = getD set (erasesPlace g) 0; word = count } ∷ []),
+            (count-write M (withLogs S slot set []) slot (getD set (erasesPlace g) 0) count _ _ (b .slot-inside) (slot-with M S set slot b set [])
+            (b .cell-inside (erasesPlace g) inside) kind legal)
+            ∙ logs-anew M S set slot b set set (record { cell = getD set (erasesPlace g) 0; word = count } ∷ []),
       )
 
   judge-done : (o : Option ℕ) → negativeAt (wordsOf S set) (groupCount set) ≡ o → Done S set slot (judging M (withLogs S slot set []) slot set (wordsOf S set) o)

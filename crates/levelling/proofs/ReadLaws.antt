@@ -1,14 +1,14 @@
 -- What an operation that has begun knows of its slot and its set, and one read and the write of an open slot.
-use mathlib.Core.Bool.{Bool, true, false, not, false≢true}
+use mathlib.Core.Bool.{true, not, false≢true}
 use mathlib.Core.List.{List, [], _∷_, _++_, map, map-append}
 use mathlib.Core.Option.{none}
 use mathlib.Core.Path.{_≡_, refl, sym, _∙_, ap}
-use Prim.Native.Nat.{ℕ, suc, pred, _^_, _<_, _≤_}
+use Prim.Native.Nat.{ℕ, suc, pred, _<_, _≤_}
 use native.Mathlib.Omega.{arith}
-use lib.Dec.{eqb, ltb, leb}
+use lib.Dec.{eqb, leb}
 use lib.ListN.{length, getD, take, set as replaced, length-map}
 use lib.Seq.{take-suc, length-take-le, getD-take, getD-set-same, set-set, set-getD}
-use borrow.Author.Tests.{eqb-true, eqb-false, ltb-true, leb-true, not-true, lt-ltb, lt-leb, ne-eqb}
+use borrow.Author.Tests.{eqb-true, eqb-false, ltb-true, leb-true, not-true, lt-leb, ne-eqb}
 use Rattle.value.specs.Legal.{legalWord}
 use Rattle.value.specs.Value.{parsed}
 use Rattle.value.proofs.RoundTrip.{kind-back, word-back}
@@ -16,7 +16,7 @@ use Rattle.call.specs.declared.Reply.the-variants.{Done, ReadHeld, ReadNewer}
 use Rattle.call.specs.Decode.{decoded}
 use Rattle.slot.specs.declared.ReadEntry.{ReadEntry}
 use Rattle.slot.specs.declared.WriteEntry.{WriteEntry}
-use Rattle.slot.specs.Logic.{_and_, every, first, any}
+use Rattle.slot.specs.Logic.{_and_, first, any}
 use Rattle.slot.specs.Logs.{readEntry, writeEntry, writesCell, putWrite}
 use Rattle.slot.proofs.Logic.{and-left, and-right, every-at, all-of, all-map}
 use Rattle.slot.proofs.Search.{none-of}
@@ -25,7 +25,7 @@ use Rattle.rules.specs.State.{State, Slot, idle, opened, locking, twilight, pub
 use Rattle.rules.specs.StateRight.{stateRight}
 use Rattle.rules.specs.LogsRight.{cellRight}
 use Rattle.rules.specs.Cells.{heldByOther, newer}
-use Rattle.rules.specs.Outcome.{Outcome, accepted, refuseIf}
+use Rattle.rules.specs.Outcome.{accepted, refuseIf}
 use Rattle.rules.specs.Steps.{answer, readShared, read, write}
 use Rattle.rules.specs.Step.{stepOf, step}
 use Rattle.history.proofs.Right.{right-of}
@@ -33,7 +33,7 @@ use Rattle.history.proofs.Keeps.Lists.{any-none}
 use Rattle.wear.specs.WearSet.{kindDue, setLengthRight, placeRight, setRight}
 use Rattle.wear.specs.Wear.{readOf, writeOf, openAndEmpty}
 use Rattle.levelling.specs.AsCalls.{admitted}
-use Rattle.levelling.specs.Leaves.{entryOf, wordsOf, withLogs}
+use Rattle.levelling.specs.Leaves.{entryOf, withLogs}
 
 -- a transaction that is open with empty logs
 is-empty : (x : Slot) → openAndEmpty x ≡ true → x ≡ opened (startOf x) [] []

@@ -1,15 +1,15 @@
 -- What the reads give, and what the operation leaves in the transaction's logs.
 use mathlib.Core.Bool.{Bool, true, false}
 use mathlib.Core.List.{List, [], _∷_, map}
-use mathlib.Core.Option.{Option, none, some}
+use mathlib.Core.Option.{none, some}
 use mathlib.Core.Path.{_≡_}
-use Prim.Native.Nat.{ℕ, suc, pred, _<_, _≤_}
+use Prim.Native.Nat.{ℕ, suc, pred, _<_}
 use lib.ListN.{length, getD, take}
 use Rattle.call.specs.declared.Reply.{Reply}
 use Rattle.call.specs.Answer.{replyCode}
 use Rattle.slot.specs.declared.ReadEntry.{ReadEntry}
 use Rattle.slot.specs.declared.WriteEntry.{WriteEntry}
-use Rattle.slot.specs.Logic.{_or_, All}
+use Rattle.slot.specs.Logic.{_or_}
 use Rattle.rules.specs.Model.{Model}
 use Rattle.rules.specs.State.{State, opened, cellAt, slotAt, startOf, turn}
 use Rattle.rules.specs.StateRight.{stateRight}
