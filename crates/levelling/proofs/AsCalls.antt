@@ -70,6 +70,7 @@ module _ (M : Model) (S : State) (slot : ℕ) (set : List ℕ) where
   Reached n (going words T) = T ≡ afterReads n
   Reached n (stopped place reply T) = T ≡ afterReads (suc place)
 
+  -- one read more is one call more
   one-more : (n : ℕ) → n < length set → afterReads (suc n) ≡ after (afterReads n) (step M (afterReads n) (readOf slot (getD set n 0)))
   unfolding endState
   one-more n h =
@@ -77,6 +78,7 @@ module _ (M : Model) (S : State) (slot : ℕ) (set : List ℕ) where
       ∙ ap (endState M S) (map-append (readOf slot) (take n set) (getD set n 0 ∷ []))
       ∙ end-append M (map (readOf slot) (take n set)) (readOf slot (getD set n 0) ∷ []) S
 
+  -- a read that is refused is among the calls too
   next : (n : ℕ) → n < length set → (r : Reading) → Reached n r → Reached (suc n) (readAt M slot set n r)
   unfolding readAt
   next n h (stopped place reply T) e = e
@@ -85,6 +87,7 @@ module _ (M : Model) (S : State) (slot : ℕ) (set : List ℕ) where
       let done : after T (step M T a) ≡ afterReads (suc n) = ap (λ (U : State). after U (step M U a)) e ∙ sym (one-more n h) in
       cond-elim (Reached (suc n)) (eqb (replyCode (replyOf (step M T a))) 0) _ _ (λ p. done) (λ p. sym (read-kept M T slot (getD set n 0) p) ∙ done)
 
+  -- so it is after any number of reads
   reached : (n : ℕ) → n ≤ length set → Reached n (readFirst M S slot set n)
   unfolding readFirst endState
   reached zero h = refl
@@ -97,11 +100,13 @@ module _ (M : Model) (S : State) (slot : ℕ) (set : List ℕ) where
     write-end none = refl
     write-end (some g) = refl
 
+    -- .. and no count is negative
     judge-end : (o : Option ℕ) → judging M T slot set words o .state ≡ endState M T (writeIfSound slot set words o)
     unfolding endState
     judge-end none = write-end (picked words (groupCount set))
     judge-end (some place) = refl
 
+  -- the operation once begun leaves what its calls leave
   calls-end : (r : Reading) → Reached (length set) r → levelling M slot set r .state ≡ endState M S (callsMade slot set r)
   calls-end (stopped place reply T) e = e
   calls-end (going words T) e =
@@ -111,7 +116,8 @@ module _ (M : Model) (S : State) (slot : ℕ) (set : List ℕ) where
       ∙ ap (λ (U : State). endState M U rest) all
       ∙ sym (end-append M (map (readOf slot) set) rest S)
 
-module _ (M : Model) (fits : FitsBytes M) where
+module _ (M : Model) where
+  -- on states, well formed or not
   on-states : (S : State) (set : List ℕ) (slot : ℕ) → wear M S set slot .state ≡ endState M S (wearCalls M S set slot)
   unfolding wearCalls endState
   on-states S set slot =
@@ -124,16 +130,19 @@ module _ (M : Model) (fits : FitsBytes M) where
   stays a [] p = refl
   stays a (call ∷ calls) p = rw p (stays a calls p)
 
+module _ (M : Model) (fits : FitsBytes M) where
+  -- on areas: well formed, it follows its state; else both leave it as it is
   on-areas : (a : List ℕ) → Bytes a → (set : List ℕ) (slot : ℕ) → wearOnBytes M a set slot .bytes ≡ bytesAfter M a (wearCalls M (stateOf M a) set slot)
   unfolding wearOnBytes
   on-areas a bytes set slot =
       let calls = wearCalls M (stateOf M a) set slot in
       cond-elim (λ (w : LevelledArea). w .bytes ≡ bytesAfter M a calls) (wellFormed M a) _ _
       (λ p.
-      ap (pack M) (on-states (stateOf M a) set slot)
+      ap (pack M) (on-states M (stateOf M a) set slot)
       ∙ sym (keeps M fits .sameEnd (stateOf M a) calls (state-right M a bytes p))
       ∙ ap (λ (b : List ℕ). bytesAfter M b calls) (pack-state M a bytes p))
-      (λ p. sym (stays a calls p))
+      (λ p. sym (stays M a calls p))
 
+-- The operation is a list of core calls.
 pub as-calls : (M : Model) → FitsBytes M → AsCalls M
-as-calls M fits = record { onStates = on-states M fits; onAreas = on-areas M fits }
+as-calls M fits = record { onStates = on-states M; onAreas = on-areas M fits }

@@ -56,10 +56,12 @@ number-parts S w f =
     (omega arith, omega arith, omega arith, omega arith)
 
 module _ (M : Model) (S : State) (set : List ℕ) (slot : ℕ) (right : stateRight M S ≡ true) where
+  -- a refusal has kind and word 0
   refusing-fits : (place code : ℕ) (T : State) → code < 2 ^ 8 → (Early code → T ≡ S) → Fits S (refusing place code T)
   refusing-fits place code T h kept = record { code-fits = h; kind-fits = lit< tt; word-fits = lit< tt; kept = kept }
 
   module _ (adm : admitted M S set slot ≡ true) where
+    -- 34, or a group's number, which is below 8
     write-fits : (words : List ℕ) (T : State) (o : Option ℕ) → picked words (groupCount set) ≡ o → Fits S (writing M T slot set words o)
     write-fits words T none e = refusing-fits 0 34 T (lit< tt) (λ c. let low = early 34 c .1 in absurd (omega arith))
     write-fits words T (some g) e =
@@ -72,10 +74,12 @@ module _ (M : Model) (S : State) (set : List ℕ) (slot : ℕ) (right : stateRig
           kept = λ c. let high = early 0 c .0 in absurd (omega arith);
         }
 
+    -- 33, or one of those
     judge-fits : (words : List ℕ) (T : State) (o : Option ℕ) → Fits S (judging M T slot set words o)
     judge-fits words T none = write-fits words T (picked words (groupCount set)) refl
     judge-fits words T (some place) = refusing-fits place 33 T (lit< tt) (λ c. let low = early 33 c .1 in absurd (omega arith))
 
+    -- 10 with nothing beside it, or one of those
     reads-fit : (r : Reading) → readFirst M S slot set (length set) ≡ r → Fits S (levelling M slot set r)
     reads-fit (going words T) e = judge-fits words T (negativeAt words (groupCount set))
     reads-fit (stopped place reply T) e =
@@ -85,6 +89,7 @@ module _ (M : Model) (S : State) (set : List ℕ) (slot : ℕ) (right : stateRig
         let word = bare .1 in
         record { code-fits = omega arith; kind-fits = omega arith; word-fits = omega arith; kept = λ c. absurd (early (replyCode reply) c .2 ten) }
 
+  -- so of the operation on any well-formed state
   wear-fits : Fits S (wear M S set slot)
   wear-fits =
       wear-case M S set slot (λ (w : Levelled) (b : Bool). admitted M S set slot ≡ b → Fits S w)
@@ -93,20 +98,25 @@ module _ (M : Model) (S : State) (set : List ℕ) (slot : ℕ) (right : stateRig
 
 -- of a well-formed area: what the number and the bytes are
 module _ (l set : List ℕ) (slot r : ℕ) (l′ : List ℕ) (bytes : Bytes l) (p : wellFormed controller l ≡ true) (worn : Worn l set slot r l′) where
+  -- what it comes to on the state
   abbrev w : Levelled
   w = wear controller (stateOf controller l) set slot
 
+  -- its parts fit
   fits : Fits (stateOf controller l) w
   fits = wear-fits controller (stateOf controller l) set slot (state-right controller l bytes p)
 
+  -- the number's parts
   wear-parts : (r / 2 ^ 48 ≡ w .place) × (r / 2 ^ 40 % 2 ^ 8 ≡ w .code) × (r / 2 ^ 32 % 2 ^ 8 ≡ w .kind) × (r % 2 ^ 32 ≡ w .word)
   unfolding wearOnBytes
   wear-parts = rw (worn .answer, p) (number-parts (stateOf controller l) w fits)
 
+  -- an early code packs the state that was unpacked
   untouched-good : Early (r / 2 ^ 40 % 2 ^ 8) → l′ ≡ l
   unfolding wearOnBytes
   untouched-good c = rw (worn .bytes, p) (ap (pack controller) (fits .kept (subst Early (wear-parts .1) c)) ∙ pack-state controller l bytes p)
 
+-- What C can rely on.
 pub wear-at-c : WearAtC
 unfolding wearOnBytes
 wear-at-c =

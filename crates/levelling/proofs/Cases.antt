@@ -29,6 +29,7 @@ module _ (M : Model) (S : State) (set : List ℕ) (slot : ℕ) where
       by true false c = q
       by false b c = p
 
+  -- admitted, it is what the reads lead to
   pub begins : admitted M S set slot ≡ true → wear M S set slot ≡ begun
   begins =
       wear-case (λ w b. b ≡ true → w ≡ begun) (λ e. absurd (false≢true e)) (λ e. absurd (false≢true e)) (λ e. absurd (false≢true e)) (λ e. refl)

@@ -1,6 +1,7 @@
 -- What the reads give, and what the operation leaves in the logs: by induction over the set's cells, one read after the other.
 use mathlib.Core.Bool.{Bool, true, false, cond}
 use mathlib.Core.List.{List, [], _∷_, _++_}
+use mathlib.Core.Logic.{_⊎_, inl, inr}
 use mathlib.Core.Option.{Option, none, some}
 use mathlib.Core.Path.{_≡_, refl, sym, _∙_, ap, subst}
 use Prim.Native.Nat.{ℕ, zero, suc, pred, _^_, _<_, _≤_}
@@ -14,6 +15,8 @@ use Rattle.value.specs.Legal.{legalWord}
 use Rattle.value.proofs.RoundTrip.{word-back}
 use Rattle.call.specs.declared.Reply.the-variants.{ReadHeld, ReadNewer}
 use Rattle.call.specs.Answer.{replyCode, replyWord}
+use Rattle.call.proofs.Answer.{refusal-bare}
+use Rattle.slot.specs.declared.WriteEntry.{WriteEntry}
 use Rattle.slot.specs.Logic.{_or_}
 use Rattle.rules.specs.Model.{Model}
 use Rattle.rules.specs.State.{State, cellAt, slotAt, startOf}
@@ -25,7 +28,7 @@ use Rattle.pick.specs.Groups.{erasesPlace, erases}
 use Rattle.pick.specs.Pick.{negativeAt, picked}
 use Rattle.pick.proofs.PicksRight.{picks-right}
 use Rattle.wear.specs.WearSet.{groupCount}
-use Rattle.wear.specs.Wear.{Reading, going, stopped, readAt, readFirst, Levelled, writing, judging, levelling}
+use Rattle.wear.specs.Wear.{Reading, going, stopped, readAt, readFirst, Levelled, writing, judging, levelling, wear}
 use Rattle.levelling.specs.AsCalls.{admitted}
 use Rattle.levelling.specs.Leaves.{wordsOf, withLogs, inTheWay, Leaves}
 use Rattle.levelling.proofs.Cases.{begins}
@@ -42,14 +45,21 @@ module _ (S : State) (set : List ℕ) (slot : ℕ) where
   SoFar n (stopped place reply T) =
       (replyCode reply ≡ 10) × (place < n) × (inTheWay S slot (getD set place 0) ≡ true) × Clear place × (T ≡ withLogs S slot (take place set) [])
 
-  -- the operation with code 0: what it picked, and the log with the one entry
-  abbrev Done : Levelled → Type 0
-  Done w =
-      w .code ≡ 0
-      → (picked (wordsOf S set) (groupCount set) ≡ some (w .word))
-      × (negativeAt (wordsOf S set) (groupCount set) ≡ none)
-      × (w .state
-      ≡ withLogs S slot set (record { cell = getD set (erasesPlace (w .word)) 0; word = suc (erases (wordsOf S set) (w .word)) } ∷ []))
+  -- the entry of the picked group's write
+  abbrev raised : ℕ → WriteEntry
+  raised g = record { cell = getD set (erasesPlace g) 0; word = suc (erases (wordsOf S set) g) }
+
+  -- what an operation that has begun comes to
+  record Ended (w : Levelled) : Type 0 where
+    codes : (w .code ≡ 0) ⊎ (w .code ≡ 10) ⊎ (w .code ≡ 33) ⊎ (w .code ≡ 34)
+    conflicts : w .code ≡ 10
+        → (w .kind ≡ 0) × (w .word ≡ 0) × (w .place < length set) × (inTheWay S slot (getD set (w .place) 0) ≡ true) × Clear (w .place)
+        × (w .state ≡ withLogs S slot (take (w .place) set) [])
+    unwritten : 33 ≤ w .code → w .state ≡ withLogs S slot set []
+    written : w .code ≡ 0
+        → (picked (wordsOf S set) (groupCount set) ≡ some (w .word))
+        × (negativeAt (wordsOf S set) (groupCount set) ≡ none)
+        × (w .state ≡ withLogs S slot set (raised (w .word) ∷ []))
 
   -- how far the reads have come with a step's outcome
   abbrev onward : ℕ → List ℕ → State → Outcome → Reading
@@ -57,9 +67,11 @@ module _ (S : State) (set : List ℕ) (slot : ℕ) where
 
 module _ (M : Model) (S : State) (set : List ℕ) (slot : ℕ) (b : Begun M S set slot) where
   module _ (n : ℕ) (h : n < length set) (clear : Clear S set slot n) where
+    -- the next cell
     abbrev c : ℕ
     c = getD set n 0
 
+    -- one cell more, by whether it is held or newer
     one-read : SoFar S set slot (suc n)
         (onward S set slot n (wordsOf S (take n set)) (withLogs S slot (take n set) [])
         (refuseIf (heldByOther (pred slot) (cellAt S c)) (ReadHeld (cellAt S c .holder))
@@ -82,6 +94,7 @@ module _ (M : Model) (S : State) (set : List ℕ) (slot : ℕ) (b : Begun M S se
           λ earlier l. below-more (λ k. inTheWay S slot (getD set k 0) ≡ false) n clear (rw (p, q)) earlier (omega arith),
         )
 
+  -- the next read, if none was refused yet
   next : (n : ℕ) → n < length set → (r : Reading) → SoFar S set slot n r → SoFar S set slot (suc n) (readAt M slot set n r)
   unfolding readAt
   next n h (stopped place reply T) so = let before = so .1 in (so .0, omega arith, so .2, so .3, so .4)
@@ -94,45 +107,69 @@ module _ (M : Model) (S : State) (set : List ℕ) (slot : ℕ) (b : Begun M S se
   so-far (suc n) h = next n h (readFirst M S slot set n) (so-far n (omega arith))
 
   -- the picked group's write is accepted: its cell is of kind 2, and its count plus one has 32 bits
-  write-done : (o : Option ℕ) → negativeAt (wordsOf S set) (groupCount set) ≡ none → picked (wordsOf S set) (groupCount set) ≡ o
-      → Done S set slot (writing M (withLogs S slot set []) slot set (wordsOf S set) o)
+  write-accepted : (g : ℕ) → picked (wordsOf S set) (groupCount set) ≡ some g
+      → writing M (withLogs S slot set []) slot set (wordsOf S set) (some g) .state ≡ withLogs S slot set (raised S set slot g ∷ [])
   unfolding legalWord
-  write-done none sound p done = absurd (omega arith)
-  write-done (some g) sound p done =
-      let words = wordsOf S set in
-      let least = picks-right .pick words (groupCount set) g p in
-      let count = suc (erases words g) in
+  write-accepted g p =
+      let least = picks-right .pick (wordsOf S set) (groupCount set) g p in
+      let count = suc (erases (wordsOf S set) g) in
       let inside : erasesPlace g < length set = let few = least .inside in omega arith in
       let kind : cellAt S (getD set (erasesPlace g) 0) .kind ≡ 2 = b .cell-kind (erasesPlace g) inside ∙ omega arith in
-      let legal : legalWord 2 count ≡ true = let below = least .below in lt-ltb count (2 ^ 32) (omega arith) in (
-        p,
-        sound,
-        ap (after (withLogs S slot set []))
-            (count-write M (withLogs S slot set []) slot (getD set (erasesPlace g) 0) count _ _ (b .slot-inside) (slot-with M S set slot b set [])
-            (b .cell-inside (erasesPlace g) inside) kind legal)
-            ∙ logs-anew M S set slot b set set (record { cell = getD set (erasesPlace g) 0; word = count } ∷ []),
-      )
+      let legal : legalWord 2 count ≡ true = let below = least .below in lt-ltb count (2 ^ 32) (omega arith) in
+      ap (after (withLogs S slot set []))
+      (count-write M (withLogs S slot set []) slot (getD set (erasesPlace g) 0) count _ _ (b .slot-inside) (slot-with M S set slot b set [])
+      (b .cell-inside (erasesPlace g) inside) kind legal)
+      ∙ logs-anew M S set slot b set set (raised S set slot g ∷ [])
 
-  judge-done : (o : Option ℕ) → negativeAt (wordsOf S set) (groupCount set) ≡ o → Done S set slot (judging M (withLogs S slot set []) slot set (wordsOf S set) o)
-  judge-done none sound done = write-done (picked (wordsOf S set) (groupCount set)) sound refl done
-  judge-done (some place) e done = absurd (omega arith)
+  -- by what is picked: 34, or the write
+  write-ended : (o : Option ℕ) → negativeAt (wordsOf S set) (groupCount set) ≡ none → picked (wordsOf S set) (groupCount set) ≡ o
+      → Ended S set slot (writing M (withLogs S slot set []) slot set (wordsOf S set) o)
+  write-ended none sound p =
+      record { codes = inr (inr (inr refl)); conflicts = λ e. absurd (omega arith); unwritten = λ e. refl; written = λ e. absurd (omega arith) }
+  write-ended (some g) sound p =
+      record { codes = inl refl; conflicts = λ e. absurd (omega arith); unwritten = λ e. absurd (omega arith); written = λ e. (p, sound, write-accepted g p) }
 
-  all-done : (r : Reading) → SoFar S set slot (length set) r → Done S set slot (levelling M slot set r)
-  all-done (stopped place reply T) so = λ done. let refused = so .0 in absurd (omega arith)
-  all-done (going words T) so = rw (so .0, so .1, take-length set) (judge-done (negativeAt (wordsOf S set) (groupCount set)) refl)
+  -- by the signs: 33, or what is picked
+  judge-ended : (o : Option ℕ) → negativeAt (wordsOf S set) (groupCount set) ≡ o
+      → Ended S set slot (judging M (withLogs S slot set []) slot set (wordsOf S set) o)
+  judge-ended none sound = write-ended (picked (wordsOf S set) (groupCount set)) sound refl
+  judge-ended (some place) e =
+      record { codes = inr (inr (inl refl)); conflicts = λ d. absurd (omega arith); unwritten = λ d. refl; written = λ d. absurd (omega arith) }
 
+  -- by the reads: 10, or what the signs say
+  reads-ended : (r : Reading) → SoFar S set slot (length set) r → Ended S set slot (levelling M slot set r)
+  reads-ended (stopped place reply T) so =
+      let ten = so .0 in
+      let bare = refusal-bare reply (omega arith) in
+      record {
+        codes = inr (inl ten);
+        conflicts = λ e. (bare .0, bare .1, so .1, so .2, so .3, so .4);
+        unwritten = λ e. absurd (omega arith);
+        written = λ e. absurd (omega arith);
+      }
+  reads-ended (going words T) so = rw (so .0, so .1, take-length set) (judge-ended (negativeAt (wordsOf S set) (groupCount set)) refl)
+
+module _ (M : Model) (S : State) (set : List ℕ) (slot : ℕ) (right : stateRight M S ≡ true) (adm : admitted M S set slot ≡ true) where
+  -- of a well-formed state whose slot and set are right
+  all-read : SoFar S set slot (length set) (readFirst M S slot set (length set))
+  all-read = so-far M S set slot (is-begun M S set slot right adm) (length set) (omega arith)
+
+  -- .. and what the operation comes to then
+  ended : Ended S set slot (wear M S set slot)
+  ended =
+      subst (Ended S set slot) (sym (begins M S set slot adm))
+      (reads-ended M S set slot (is-begun M S set slot right adm) (readFirst M S slot set (length set)) all-read)
+
+-- What the operation leaves.
 pub leaves : (M : Model) → Leaves M
 leaves M =
     record {
       allRead = λ S set slot words T right adm e.
-          let so = subst (SoFar S set slot (length set)) e (read-so-far S set slot right adm) in
-          (rw (take-length set) at (so .0), rw (take-length set) at (so .1));
-      refusedRead = λ S set slot place reply T right adm e. subst (SoFar S set slot (length set)) e (read-so-far S set slot right adm);
-      written = λ S set slot right adm.
-          subst (Done S set slot) (sym (begins M S set slot adm))
-          (all-done M S set slot (is-begun M S set slot right adm) (readFirst M S slot set (length set)) (read-so-far S set slot right adm));
+          let so = subst (SoFar S set slot (length set)) e (all-read M S set slot right adm) in
+          (rw (take-length set) at (so .0), rw (take-length set) at (so .1), so .2);
+      refusedRead = λ S set slot place reply T right adm e. subst (SoFar S set slot (length set)) e (all-read M S set slot right adm);
+      written = λ S set slot right adm. ended M S set slot right adm .written;
+      codes = λ S set slot right adm. ended M S set slot right adm .codes;
+      conflicts = λ S set slot right adm. ended M S set slot right adm .conflicts;
+      unwritten = λ S set slot right adm. ended M S set slot right adm .unwritten;
     }
-  where
-    read-so-far : (S : State) (set : List ℕ) (slot : ℕ) → stateRight M S ≡ true → admitted M S set slot ≡ true
-        → SoFar S set slot (length set) (readFirst M S slot set (length set))
-    read-so-far S set slot right adm = so-far M S set slot (is-begun M S set slot right adm) (length set) (omega arith)

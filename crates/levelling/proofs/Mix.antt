@@ -32,6 +32,7 @@ unfolding bytesAfter
 call-left l bytes (stepMade call answer left) kept = kept .bytes
 call-left l bytes (wearMade set slot answer left) kept = kept .bytes ∙ as-calls controller controller-fits .onAreas l bytes set slot
 
+-- .. which is bytes, and well formed
 call-good : (l : List ℕ) → Good controller l → (m : Made) → Keeping l m → Good controller (leftBy m)
 call-good l good m kept = subst (Good controller) (sym (call-left l (good .bytes) m kept)) (run-good controller controller-fits l (coreCalls l m) good)
 
@@ -52,19 +53,23 @@ calls-append (m ∷ earlier) later l =
     ap (λ (calls : List Call). coreCalls l m ++ calls) (calls-append earlier later (leftBy m))
     ∙ sym (append-assoc (coreCalls l m) (allCoreCalls (leftBy m) earlier) (allCoreCalls (lastLeft (leftBy m) earlier) later))
 
+-- the first calls of those in turn are in turn
 turns-front : (earlier later : List Made) (l : List ℕ) → inTurn l (earlier ++ later) → inTurn l earlier
 unfolding inTurn
 turns-front [] later l turns = tt
 turns-front (m ∷ earlier) later l turns = (turns .0, turns-front earlier later (leftBy m) (turns .1))
 
+-- an area at rest is well formed
 rest-good : (l : List ℕ) → Bytes l → atRest controller l ≡ true → Good controller l
 rest-good l bytes rest = record { bytes = bytes; right = rest-right controller controller-fits l rest }
 
+-- demand 3 of the core calls is demand 3 of the mix
 from-rest : (l : List ℕ) (made : List Made) → Bytes l → atRest controller l ≡ true → inTurn l made
     → Demand3 (stateOf controller l) (happened l made) (stateOf controller (lastLeft l made))
 from-rest l made bytes rest turns =
     rw (same-end made l (rest-good l bytes rest) turns) (histories controller controller-fits .ofAreas l bytes rest (allCoreCalls l made))
 
+-- Steps and wear operations in any mix.
 pub mix-at-c : MixAtC
 mix-at-c =
     record {

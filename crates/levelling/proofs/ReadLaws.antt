@@ -45,6 +45,7 @@ is-empty (locking taken start reads writes) e = absurd (false≢true e)
 is-empty (twilight ignoring start commit reads writes) e = absurd (false≢true e)
 is-empty (publishing ignoring taken start commit reads writes) e = absurd (false≢true e)
 
+-- what is known of a well-formed state in which the operation is admitted
 pub record Begun (M : Model) (S : State) (set : List ℕ) (slot : ℕ) : Type 0 where
   -- the slot is one of the model's, and open with empty logs
   pub slot-inside : (leb 1 slot and leb slot (M .slots)) ≡ true
@@ -55,9 +56,11 @@ pub record Begun (M : Model) (S : State) (set : List ℕ) (slot : ℕ) : Type 0 
   pub cell-inside : (place : ℕ) → place < length set → getD set place 0 < cellCount S
   pub cell-kind : (place : ℕ) → place < length set → cellAt S (getD set place 0) .kind ≡ kindDue place
   pub cell-new : (place earlier : ℕ) → place < length set → earlier < place → getD set earlier 0 ≡ getD set place 0 → ⊥
+  -- every cell's word is legal
   pub cell-legal : (c : ℕ) → c < cellCount S → legalWord (cellAt S c .kind) (cellAt S c .word) ≡ true
 
 module _ (M : Model) (S : State) (set : List ℕ) (slot : ℕ) (right : stateRight M S ≡ true) (adm : admitted M S set slot ≡ true) where
+  -- the set, and each of its places
   set-right : setRight S set ≡ true
   unfolding admitted
   set-right = and-left _ _ adm
@@ -66,6 +69,7 @@ module _ (M : Model) (S : State) (set : List ℕ) (slot : ℕ) (right : stateRig
   unfolding setRight
   place-right = every-at (length set) (placeRight S set) (and-right _ _ set-right)
 
+  -- all of it from the tests
   pub is-begun : Begun M S set slot
   unfolding admitted setRight setLengthRight placeRight cellRight
   is-begun =
@@ -103,6 +107,7 @@ count-write M S slot c count start reads inside x h kind legal =
     rw (legal, inside, x, lt-leb (cellCount S) c h, kind-back 2 count legal, word-back 2 count legal, legal, kind)
 
 module _ (M : Model) (S : State) (set : List ℕ) (slot : ℕ) (b : Begun M S set slot) where
+  -- the slot, from 0, and its transaction's start
   abbrev i : ℕ
   i = pred slot
 

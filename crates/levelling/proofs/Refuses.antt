@@ -15,6 +15,7 @@ use Rattle.levelling.specs.Refuses.{SoundRead, RefusesExactly}
 use Rattle.levelling.proofs.Cases.{begins}
 
 module _ (M : Model) (S : State) (set : List ℕ) (slot : ℕ) (words : List ℕ) (T : State) where
+  -- what it comes to is settled by what is picked
   comes-to : SoundRead M S set slot words T → wear M S set slot ≡ writing M T slot set words (picked words (groupCount set))
   comes-to p =
       begins M S set slot (p .begun)
@@ -27,13 +28,16 @@ module _ (M : Model) (S : State) (set : List ℕ) (slot : ℕ) (words : List ℕ
       (w .code ≡ 34 → NoneLeft words (groupCount set))
       × ((w .code ≡ 34 → ⊥) → (w .code ≡ 0) × LeastWorn words (groupCount set) (w .word))
 
+  -- none: 34; a group: 0, and it is the least worn
   by-pick : (o : Option ℕ) → picked words (groupCount set) ≡ o → Answers (writing M T slot set words o)
   by-pick none e = (λ refused. picks-right .none-left words (groupCount set) e, λ other. absurd (other refl))
   by-pick (some g) e = (λ refused. absurd (omega arith), λ other. (refl, picks-right .pick words (groupCount set) g e))
 
+  -- so of the operation
   answers : SoundRead M S set slot words T → Answers (wear M S set slot)
   answers p = subst Answers (sym (comes-to p)) (by-pick (picked words (groupCount set)) refl)
 
+-- It refuses exactly if no usable group is left, else it picks the least worn one.
 pub refuses-exactly : (M : Model) → RefusesExactly M
 refuses-exactly M =
     record {
