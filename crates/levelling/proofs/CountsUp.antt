@@ -70,7 +70,7 @@ unfolding writesCell any
 one-other e c other = or-false _ ∙ ne-eqb _ _ (λ same. other (sym same))
 
 module _ (S : State) (events : List Event) where
-  -- what is known of a commit that ignored no mark
+  -- a commit with its own log at its stamp, whose reads are what the replay holds just before it
   raises : (x : Commit) → 0 < x .stamp → logAt (commits events) (x .stamp) ≡ x .writes
       → All (λ (e : ReadEntry). e .word ≡ replay S events (pred (x .stamp)) (e .cell)) (x .reads)
       → (set : List ℕ) (g : ℕ) → LevelsWith set g (x .reads) (x .writes) → RaisesOne S events (x .stamp) (getD set (erasesPlace g) 0)
@@ -100,7 +100,7 @@ module _ (S : State) (events : List Event) where
       }
 
 module _ {S : State} {events : List Event} {T : State} (holds : Demand3 S events T) where
-  -- a commit that levels and ignored no mark
+  -- each commit that levels and ignored no mark raises one count
   each-raises : All (λ (x : Commit). (set : List ℕ) (g : ℕ) → LevelsWith set g (x .reads) (x .writes) → x .ignoring ≡ false
       → RaisesOne S events (x .stamp) (getD set (erasesPlace g) 0)) (commits events)
   each-raises =
@@ -130,6 +130,7 @@ module _ {S : State} {events : List Event} {T : State} (holds : Demand3 S events
             rw (quiet (logAt (commits events)) (λ d. cellAt S d .word) k (suc k) c (omega arith)
             (λ j above last. let same : j ≡ suc k = omega arith in rw same w)) (≤ℤ-refl _)
 
+    -- .. and to any later one
     replay-rises : (a b : ℕ) → a ≤ b → signed (replay S events a c) ≤ℤ signed (replay S events b c)
     replay-rises a zero h = let same : a ≡ 0 = omega arith in rw same (≤ℤ-refl _)
     replay-rises a (suc b) h =

@@ -56,13 +56,15 @@ word-settled begun M logs S inv c h =
           omega arith;
     }
 
--- calls after calls
+-- calls, and later ones after them
 module _ (next : State → Call → Outcome) where
+  -- .. end where the later ones end
   final-append : (S : State) (earlier later : List Call) → final next S (earlier ++ later) ≡ final next (final next S earlier) later
   unfolding final
   final-append S [] later = refl
   final-append S (a ∷ earlier) later = final-append (after S (next S a)) earlier later
 
+  -- .. and have the commits of both
   commits-append : (S : State) (earlier later : List Call)
       → commits (history next S (earlier ++ later)) ≡ commits (history next S earlier) ++ commits (history next (final next S earlier) later)
   unfolding history final commits
@@ -83,22 +85,25 @@ all-there P [] x m a = a .0
 all-there P (y ∷ l) x m a = all-there P l x m (a .1)
 
 module _ (M : Model) (fits : FitsBytes M) (S : State) (rest : stateAtRest M S ≡ true) (earlier later : List Call) (c : ℕ) where
+  -- the state after the earlier calls, and after all
   abbrev then : State
   then = final (step M) S earlier
 
   abbrev now : State
   now = final (step M) S (earlier ++ later)
 
+  -- the reads so far, and those since
   abbrev readsThen : List SharedRead
   readsThen = sharedReads (history (step M) S earlier)
 
   abbrev readsSince : List SharedRead
   readsSince = sharedReads (history (step M) then later)
 
+  -- what is kept along up to then, and up to now
   along-then : Along M S (commits (history (step M) S earlier)) readsThen then
   along-then = along-calls M S [] [] S (rest-along M S rest) earlier
 
-  -- the cell, as a transaction that started at its stamp would read it: so it is kept along to the end, as every read is
+  -- the cell, as a transaction that started at its stamp would read it then: what was read is kept along to the end
   abbrev looked : SharedRead
   looked = record { start = cellAt then c .stamp; cell = c; kind = cellAt then c .kind; word = cellAt then c .word }
 
@@ -114,7 +119,7 @@ module _ (M : Model) (fits : FitsBytes M) (S : State) (rest : stateAtRest M S �
   later-stamp : cellAt then c .stamp ≤ cellAt now c .stamp
   later-stamp = rw (final-append (step M) S earlier later) (stamps-rise M S _ _ then along-then later c)
 
-  -- a cell that is there
+  -- of a cell that is there
   falls-not : OnlyLevelled (history (step M) S (earlier ++ later)) c → c < cellCount then → signed (cellAt then c .word) ≤ℤ signed (cellAt now c .word)
   falls-not only h =
       let along = along-now h in
@@ -123,14 +128,16 @@ module _ (M : Model) (fits : FitsBytes M) (S : State) (rest : stateAtRest M S �
       (along .inv .words c (rw same-count h))
       (counts-up M fits .ofStates S rest (earlier ++ later) .replayNeverFalls c only _ _ later-stamp)
 
-  -- one that is not
+  -- of one that is not
   missing : cellCount then ≤ c → signed (cellAt then c .word) ≤ℤ signed (cellAt now c .word)
   missing h =
       rw (List·getD-eq-default (then .cells) noCell {n = c} h, List·getD-eq-default (now .cells) noCell {n = c} (rw same-count h)) (≤ℤ-refl _)
 
+  -- of any cell
   of-calls : OnlyLevelled (history (step M) S (earlier ++ later)) c → signed (cellAt then c .word) ≤ℤ signed (cellAt now c .word)
   of-calls only = below-or-not _ c (cellCount then) (falls-not only) missing
 
+-- from rest, of states and of areas
 pub never-falls : (M : Model) → FitsBytes M → NeverFalls M
 never-falls M fits =
     record {

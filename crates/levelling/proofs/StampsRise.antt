@@ -22,11 +22,12 @@ use Rattle.history.proofs.Publish.{mine, lower}
 use Rattle.history.proofs.Along.{Along, begun}
 use Rattle.history.proofs.Demand3.{along-step}
 
--- no stamp of these cells is below that of the state's
+-- from S to T no stamp of a cell falls
 abbrev pub Risen : State → State → Type 0
 Risen S T = (c : ℕ) → cellAt S c .stamp ≤ cellAt T c .stamp
 
 module _ (begun : ℕ → ℕ) (M : Model) (logs : ℕ → List WriteEntry) (S : State) (inv : Inv begun M logs S) (i : ℕ) (inside : i < length (S .slots)) where
+  -- in a move
   move-rises : {s : Step} {r : Reply} {T : State} → Move M S i s r T → Risen S T
   move-rises (began x) = λ c. omega arith
   move-rises (read-written x h w) = λ c. omega arith
@@ -52,11 +53,13 @@ module _ (begun : ℕ → ℕ) (M : Model) (logs : ℕ → List WriteEntry) (S :
   move-rises (gave-up x) = λ c. let kept = free-data begun M logs S inv i inside c .1 in omega arith
 
 module _ (M : Model) (start : State) where
+  -- in a call
   call-rises : (L : List Commit) (R : List SharedRead) (S : State) → Along M start L R S → (a : Call) → Risen S (after S (step M S a))
   call-rises L R S along a =
       step-case M S (λ o. Risen S (after S o)) (λ r k c. omega arith) a
       (λ s made h r T m. move-rises (begun M start) M (logAt L) S (along .inv) (pred (a .slot)) (rw (along .inv .right .slot-count) h) m)
 
+  -- in any calls
   pub stamps-rise : (L : List Commit) (R : List SharedRead) (S : State) → Along M start L R S → (calls : List Call) → Risen S (final (step M) S calls)
   unfolding final
   stamps-rise L R S along [] c = omega arith
