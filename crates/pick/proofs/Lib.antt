@@ -1,2 +1,3 @@
 pub mod PicksRight
 pub mod Searches
+pub mod Unique

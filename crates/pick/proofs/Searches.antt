@@ -2,18 +2,18 @@
 use mathlib.Core.Bool.{Bool, true, false, cond}
 use mathlib.Core.List.{List}
 use mathlib.Core.Option.{Option, none, some}
-use mathlib.Core.Path.{_≡_, refl, _∙_}
+use mathlib.Core.Path.{_≡_, refl, sym, _∙_}
 use Prim.Native.Nat.{ℕ, zero, suc, _+_, _*_, _-_, _<_, _≤_, _^_}
 use native.Mathlib.Numerals.{add-one}
 use native.Mathlib.Omega.{arith}
-use lib.Dec.{ltb}
+use lib.Dec.{ltb, leb}
 use lib.ListN.{getD}
-use borrow.Author.Tests.{eq-eqb, ne-eqb, lt-ltb, le-ltb, le-leb, lt-leb}
+use borrow.Author.Tests.{lt-ltb, le-ltb, le-leb, lt-leb}
 use Rattle.slot.specs.Logic.{_and_}
 use Rattle.slot.proofs.Logic.{and-false}
 use Rattle.pick.specs.Groups.{usable, erases, negative, lastCount}
 use Rattle.pick.specs.Pick.{negativeAt, pickable, better, picked}
-use Rattle.pick.specs.Found.{foundOr, countToPick}
+use Rattle.pick.specs.Found.{foundOr, negativePlace, pickedGroup, countFrom}
 use Rattle.pick.proofs.PicksRight.{picks-right}
 
 module _ (words : List ℕ) where
@@ -30,7 +30,7 @@ module _ (words : List ℕ) where
 
   -- no count so far is negative, and that of group g is
   pub negative-found : (groups g : ℕ) → negativeAt words g ≡ none → g < groups → 2 ^ 31 ≤ erases words g
-      → 2 * g + 1 ≡ foundOr (2 * groups) (negativeAt words groups)
+      → 2 * g + 1 ≡ negativePlace words groups
   unfolding negativeAt negative
   negative-found groups g none-yet h low =
       let here : negativeAt words (suc g) ≡ some (2 * g + 1) = rw (none-yet, le-leb (2 ^ 31) (erases words g) low) in
@@ -43,17 +43,29 @@ module _ (words : List ℕ) where
   unfolding negativeAt negative
   negative-next g none-yet low = rw (add-one g, none-yet, lt-leb (2 ^ 31) (erases words g) low)
 
-  pub negative-none : (groups g : ℕ) → negativeAt words g ≡ none → g ≤ groups → groups ≤ g → 2 * groups ≡ foundOr (2 * groups) (negativeAt words groups)
+  pub negative-none : (groups g : ℕ) → negativeAt words g ≡ none → g ≤ groups → groups ≤ g → 2 * groups ≡ negativePlace words groups
   negative-none groups g none-yet h k = let same : groups ≡ g = omega arith in rw (same, none-yet)
 
-  -- a usable group has its count to pick by, any other the last one
-  pub count-unusable : (g : ℕ) → (getD words (2 * g) 0 ≡ 1 → ⊥) → lastCount ≡ countToPick words g
-  unfolding countToPick
-  count-unusable g other = rw (ne-eqb (getD words (2 * g) 0) 1 other)
+  -- a count that is asked for, and one that is not
+  pub count-not : (least g : ℕ) → getD words (2 * g) 0 < least → lastCount ≡ countFrom least words g
+  unfolding countFrom
+  count-not least g h = rw (lt-leb least (getD words (2 * g) 0) h)
 
-  pub count-usable : (g r : ℕ) → getD words (2 * g) 0 ≡ 1 → r ≡ erases words g → r ≡ countToPick words g
-  unfolding countToPick
-  count-usable g r one e = rw (eq-eqb (getD words (2 * g) 0) 1 one) e
+  pub count-is : (least g : ℕ) → least ≤ getD words (2 * g) 0 → erases words g ≡ countFrom least words g
+  unfolding countFrom
+  count-is least g h = rw (le-leb least (getD words (2 * g) 0) h)
+
+  -- what is negative of the counts that are asked for is a negative count; where all are asked for, a count that is not negative is none
+  pub negative-count : (least g count : ℕ) → count ≡ countFrom least words g → 2 ^ 31 ≤ count → 2 ^ 31 ≤ erases words g
+  unfolding countFrom
+  negative-count least g count e low = by (leb least (getD words (2 * g) 0)) e
+    where
+      by : (b : Bool) → count ≡ cond b (erases words g) lastCount → 2 ^ 31 ≤ erases words g
+      by true q = omega arith
+      by false q = absurd (omega arith)
+
+  pub any-count : (g count : ℕ) → count ≡ countFrom 0 words g → count ≡ erases words g
+  any-count g count e = e ∙ sym (count-is 0 g (omega arith))
 
   -- the fewest erases so far, or the last count
   abbrev pub fewestIn : Option ℕ → ℕ
@@ -71,8 +83,8 @@ module _ (words : List ℕ) where
   sought-none groups = record { inside = omega arith; best-is = refl; fewest-is = refl }
 
   -- group g is not better than the best of those before it
-  not-better : (g count : ℕ) (o : Option ℕ) → count ≡ countToPick words g → fewestIn o ≤ count → better words g o ≡ o
-  unfolding pickable countToPick _and_
+  not-better : (g count : ℕ) (o : Option ℕ) → count ≡ countFrom 1 words g → fewestIn o ≤ count → better words g o ≡ o
+  unfolding pickable countFrom _and_
   not-better g count none e few = by (usable words g) refl
     where
       by : (b : Bool) → usable words g ≡ b → cond (usable words g and ltb (erases words g) lastCount) (some g) none ≡ none
@@ -93,9 +105,9 @@ module _ (words : List ℕ) where
   takes g none most u few = rw (u, lt-ltb (erases words g) lastCount few)
   takes g (some best) most u few = rw (u, lt-ltb (erases words g) lastCount (omega arith), lt-ltb (erases words g) (erases words best) few)
 
-  is-better : (g count : ℕ) (o : Option ℕ) → fewestIn o ≤ lastCount → count ≡ countToPick words g → count < fewestIn o
+  is-better : (g count : ℕ) (o : Option ℕ) → fewestIn o ≤ lastCount → count ≡ countFrom 1 words g → count < fewestIn o
       → (better words g o ≡ some g) × (count ≡ erases words g)
-  unfolding countToPick
+  unfolding countFrom
   is-better g count o most e few = by (usable words g) refl
     where
       by : (b : Bool) → usable words g ≡ b → (better words g o ≡ some g) × (count ≡ erases words g)
@@ -110,7 +122,7 @@ module _ (words : List ℕ) where
       by none e = omega arith
       by (some best) e = let below = picks-right .pick words g best e .below in omega arith
 
-  module _ (groups g fewest best count : ℕ) (seen : Sought groups g fewest best) (more : g < groups) (e : count ≡ countToPick words g) where
+  module _ (groups g fewest best count : ℕ) (seen : Sought groups g fewest best) (more : g < groups) (e : count ≡ countFrom 1 words g) where
     pub sought-better : count < fewest → Sought groups (g + 1) count g
     unfolding picked
     sought-better few =
@@ -125,7 +137,7 @@ module _ (words : List ℕ) where
         let same = not-better g count (picked words g) e less in
         record { inside = omega arith; best-is = rw (add-one g, same) (seen .best-is); fewest-is = rw (add-one g, same) (seen .fewest-is) }
 
-  pub sought-all : (groups g fewest best : ℕ) → Sought groups g fewest best → groups ≤ g → best ≡ foundOr groups (picked words groups)
+  pub sought-all : (groups g fewest best : ℕ) → Sought groups g fewest best → groups ≤ g → best ≡ pickedGroup words groups
   sought-all groups g fewest best seen all =
       let inside = seen .inside in
       let same : groups ≡ g = omega arith in

@@ -2,7 +2,7 @@
 use mathlib.Core.Bool.{Bool}
 use mathlib.Core.List.{List}
 use Prim.Native.Nat.{ℕ, _+_, _*_, _-_, _^_}
-use lib.Dec.{eqb, leb}
+use lib.Dec.{leb}
 use lib.ListN.{getD}
 
 -- where group g's two cells stand in the set, from 0
@@ -12,9 +12,9 @@ truthPlace g = 2 * g
 abbrev pub erasesPlace : ℕ → ℕ
 erasesPlace g = 2 * g + 1
 
--- group g is usable; its count of erases
+-- group g is usable if its truth cell's word is not 0; its count of erases
 abbrev pub usable : List ℕ → ℕ → Bool
-usable words g = eqb (getD words (truthPlace g) 0) 1
+usable words g = leb 1 (getD words (truthPlace g) 0)
 
 abbrev pub erases : List ℕ → ℕ → ℕ
 erases words g = getD words (erasesPlace g) 0

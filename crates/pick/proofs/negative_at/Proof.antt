@@ -3,7 +3,7 @@ use mathlib.Core.Path.{_≡_, refl}
 use Prim.Native.Nat.{_-_, _≤_}
 use native.Mathlib.Omega.{arith}
 use Rattle.pick.specs.Pick.{negativeAt}
-use Rattle.pick.proofs.Searches.{negative-start, negative-found, negative-next, negative-none}
+use Rattle.pick.proofs.Searches.{negative-count, any-count, negative-start, negative-found, negative-next, negative-none}
 use Rattle.pick.proofs.negative_at.Statement.{statement}
 use Rattle.pick.proofs.negative_at.Tie as tie
 
@@ -16,8 +16,8 @@ abbrev μ-loop : tie.MeasureT-loop
 loop-holds : tie.Need-loop-holds Inv-loop μ-loop
 loop-holds c = (omega arith, negative-start _)
 
-erases-of-requires : tie.Need-erases-of-requires Inv-loop μ-loop
-erases-of-requires c κs = omega arith
+count-of-requires : tie.Need-count-of-requires Inv-loop μ-loop
+count-of-requires c κs = omega arith
 
 mul-result : tie.Need-mul-result Inv-loop μ-loop
 mul-result c = omega arith
@@ -28,8 +28,8 @@ add-result c = omega arith
 returns : tie.Need-returns Inv-loop μ-loop
 returns c =
     let loop = let c : tie.At-loop Inv-loop μ-loop = search in c .loop in
-    let count = let c : tie.After-erases-of Inv-loop μ-loop = search in c .erases-of .ensures in
-    negative-found _ _ _ (loop .inv .1) (omega arith) (omega arith)
+    let count = let c : tie.After-count-of Inv-loop μ-loop = search in c .count-of .ensures in
+    negative-found _ _ _ (loop .inv .1) (omega arith) (negative-count _ _ _ _ count (c .if1 .taken))
 
 add-g : tie.Need-add-g Inv-loop μ-loop
 add-g c = omega arith
@@ -40,7 +40,8 @@ loop-less c = omega arith
 loop-again : tie.Need-loop-again Inv-loop μ-loop
 loop-again c =
     let loop = let c : tie.At-loop Inv-loop μ-loop = search in c .loop in
-    let count = let c : tie.After-erases-of Inv-loop μ-loop = search in c .erases-of .ensures in
+    let count = let c : tie.After-count-of Inv-loop μ-loop = search in c .count-of .ensures in
+    let count = any-count _ _ _ count in
     (omega arith, negative-next _ _ (loop .inv .1) (omega arith))
 
 mul-result-2 : tie.Need-mul-result-2 Inv-loop μ-loop
@@ -58,7 +59,7 @@ negative-at-spec =
     Inv-loop
     μ-loop
     loop-holds
-    erases-of-requires
+    count-of-requires
     mul-result
     add-result
     returns

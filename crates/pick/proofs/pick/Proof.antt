@@ -14,8 +14,8 @@ abbrev μ-loop : tie.MeasureT-loop
 loop-holds : tie.Need-loop-holds Inv-loop μ-loop
 loop-holds c = sought-none _ _
 
-count-to-pick-requires : tie.Need-count-to-pick-requires Inv-loop μ-loop
-count-to-pick-requires c κs = omega arith
+count-of-requires : tie.Need-count-of-requires Inv-loop μ-loop
+count-of-requires c κs = omega arith
 
 add-g : tie.Need-add-g Inv-loop μ-loop
 add-g c = omega arith
@@ -26,7 +26,7 @@ loop-less c = omega arith
 loop-again : tie.Need-loop-again Inv-loop μ-loop
 loop-again c =
     let loop = let c : tie.At-loop Inv-loop μ-loop = search in c .loop in
-    let count = let c : tie.After-count-to-pick Inv-loop μ-loop = search in c .count-to-pick .ensures in
+    let count = let c : tie.After-count-of Inv-loop μ-loop = search in c .count-of .ensures in
     elim (c .if1 .came) [
       | inl t ↦ rw (t .1, t .2) (sought-better _ _ _ _ _ _ (loop .inv) (omega arith) count (t .0 .taken))
       | inr t ↦ rw (t .1, t .2) (sought-other _ _ _ _ _ _ (loop .inv) (omega arith) count (t .0 .left))
@@ -40,4 +40,4 @@ returns c =
 pub pick-spec : {M : Type 1} → statement M
 pick-spec =
     tie.close
-    (tie.spec Inv-loop μ-loop loop-holds count-to-pick-requires add-g loop-less loop-again returns)
+    (tie.spec Inv-loop μ-loop loop-holds count-of-requires add-g loop-less loop-again returns)
