@@ -30,7 +30,7 @@ use Rattle.rules.specs.Steps.{answer, readShared, read, write}
 use Rattle.rules.specs.Step.{stepOf, step}
 use Rattle.history.proofs.Right.{right-of}
 use Rattle.history.proofs.Keeps.Lists.{any-none}
-use Rattle.wear.specs.WearSet.{kindDue, setLengthRight, placeRight, setRight}
+use Rattle.wear.specs.WearSet.{kindDue, setLengthRight, cellFits, placeRight, setRight}
 use Rattle.wear.specs.Wear.{readOf, writeOf, openAndEmpty}
 use Rattle.levelling.specs.AsCalls.{admitted}
 use Rattle.levelling.specs.Leaves.{entryOf, withLogs}
@@ -71,7 +71,7 @@ module _ (M : Model) (S : State) (set : List ℕ) (slot : ℕ) (right : stateRig
 
   -- all of it from the tests
   pub is-begun : Begun M S set slot
-  unfolding admitted setRight setLengthRight placeRight cellRight
+  unfolding admitted setRight setLengthRight cellFits placeRight cellRight
   is-begun =
       let inside = and-left _ _ (and-right _ _ adm) in
       record {
@@ -79,12 +79,12 @@ module _ (M : Model) (S : State) (set : List ℕ) (slot : ℕ) (right : stateRig
         slot-there = omega (arith, right-of M S right .slot-count, leb-true 1 slot (and-left _ _ inside), leb-true slot (M .slots) (and-right _ _ inside));
         slot-empty = is-empty (slotAt S (pred slot)) (and-right _ _ (and-right _ _ adm));
         short = leb-true _ _ (and-right _ _ (and-right _ _ (and-left _ _ set-right)));
-        cell-inside = λ place h. ltb-true _ _ (and-left _ _ (place-right place h));
-        cell-kind = λ place h. eqb-true _ _ (and-left _ _ (and-right _ _ (place-right place h)));
+        cell-inside = λ place h. ltb-true _ _ (and-left _ _ (and-left _ _ (place-right place h)));
+        cell-kind = λ place h. eqb-true _ _ (and-right _ _ (and-left _ _ (place-right place h)));
         cell-new = λ place earlier h l.
             eqb-false _ _
             (not-true _
-            (every-at place (λ e. not (eqb (getD set e 0) (getD set place 0))) (and-right _ _ (and-right _ _ (place-right place h))) earlier l));
+            (every-at place (λ e. not (eqb (getD set e 0) (getD set place 0))) (and-right _ _ (place-right place h)) earlier l));
         cell-legal = λ c h. and-left _ _ (right-of M S right .cell c h);
       }
 

@@ -73,11 +73,14 @@ abbrev pub judging : Model → State → ℕ → List ℕ → List ℕ → Optio
 judging M S slot set words (some place) = refusing place 33 S
 judging M S slot set words none = writing M S slot set words (picked words (groupCount set))
 
+abbrev pub judged : Model → State → ℕ → List ℕ → List ℕ → Levelled
+judged M S slot set words = judging M S slot set words (negativeAt words (groupCount set))
+
 -- once the reads are made: a core code is passed on with its place
 abbrev pub levelling : Model → ℕ → List ℕ → Reading → Levelled
 levelling M slot set (stopped place reply S) =
     record { place = place; code = replyCode reply; kind = replyKind reply; word = replyWord reply; state = S }
-levelling M slot set (going words S) = judging M S slot set words (negativeAt words (groupCount set))
+levelling M slot set (going words S) = judged M S slot set words
 
 -- a transaction that is open with empty logs
 abbrev pub bothEmpty : List ReadEntry → List WriteEntry → Bool

@@ -19,13 +19,15 @@ setLengthRight n = eqb (n % 2) 0 and leb 1 n and leb n 16
 abbrev pub kindDue : ℕ → ℕ
 kindDue place = 1 + place % 2
 
--- the cell at a place: below n, of the right kind, and not one that stands before it
+-- a cell at a place: below n, and of the kind due
+unfoldable pub cellFits : State → ℕ → ℕ → Bool
+cellFits S place c = ltb c (cellCount S) and eqb (cellAt S c .kind) (kindDue place)
+
+-- .. and not one that stands before it
 unfoldable pub placeRight : State → List ℕ → ℕ → Bool
 placeRight S set place =
     let c = getD set place 0 in
-    ltb c (cellCount S)
-    and eqb (cellAt S c .kind) (kindDue place)
-    and every place (λ earlier. not (eqb (getD set earlier 0) c))
+    cellFits S place c and every place (λ earlier. not (eqb (getD set earlier 0) c))
 
 unfoldable pub setRight : State → List ℕ → Bool
 setRight S set = setLengthRight (length set) and every (length set) (placeRight S set)
