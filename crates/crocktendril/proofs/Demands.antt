@@ -118,7 +118,7 @@ from-rest l made bytes rest turns =
     rw (same-end l made turns) (histories controller controller-fits .ofAreas l bytes rest (map (λ (m : Made). m .call) made))
 
 -- a laid-out area is bytes, and at rest
-laid-bytes : (l ds : List ℕ) → layOut controller l ds .code ≡ 0 → Bytes (layOut controller l ds .bytes)
+pub laid-bytes : (l ds : List ℕ) → layOut controller l ds .code ≡ 0 → Bytes (layOut controller l ds .bytes)
 laid-bytes l ds done =
     rw (lays-out controller controller-fits .packed l ds done)
     (round-trip controller controller-fits .packBytes (fresh controller (describedCells ds)) (laid-right controller controller-fits l ds done))

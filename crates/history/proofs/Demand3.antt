@@ -137,7 +137,7 @@ module _ (M : Model) (S : State) (rest : stateAtRest M S ≡ true) where
 
 module _ (M : Model) where
   -- one call further
-  along-step : (start : State) (L : List Commit) (R : List SharedRead) (S : State) → Along M start L R S → (a : Call)
+  pub along-step : (start : State) (L : List Commit) (R : List SharedRead) (S : State) → Along M start L R S → (a : Call)
       → Along M start (L ++ commitIn (record { before = S; call = a; reply = replyOf (step M S a) }))
       (R ++ readIn (record { before = S; call = a; reply = replyOf (step M S a) })) (after S (step M S a))
   along-step start L R S along a =
@@ -153,7 +153,7 @@ module _ (M : Model) where
       (advance M start L R S along (pred (a .slot)) h m (move-right M S (along .inv .right) (pred (a .slot)) h m) (change-kinds (effect M S (pred (a .slot)) m .change) .kind)))
 
   -- any list of calls
-  along-calls : (start : State) (L : List Commit) (R : List SharedRead) (S : State) → Along M start L R S → (calls : List Call)
+  pub along-calls : (start : State) (L : List Commit) (R : List SharedRead) (S : State) → Along M start L R S → (calls : List Call)
       → Along M start (L ++ commits (history (step M) S calls)) (R ++ sharedReads (history (step M) S calls)) (final (step M) S calls)
   unfolding history final commits sharedReads
   along-calls start L R S along [] = rw (append-nil L, append-nil R) along

@@ -28,7 +28,7 @@ module _ (M : Model) (fits : FitsBytes M) where
   same-state a (accepted r T) right = state-back M fits T right
 
   -- both have the same history, and end in the same state
-  same-history : (calls : List Call) (a : List ℕ) → Bytes a → wellFormed M a ≡ true → areaHistory M a calls ≡ history (step M) (stateOf M a) calls
+  pub same-history : (calls : List Call) (a : List ℕ) → Bytes a → wellFormed M a ≡ true → areaHistory M a calls ≡ history (step M) (stateOf M a) calls
   unfolding areaHistory history
   same-history [] a bytes p = refl
   same-history (call ∷ calls) a bytes p =
@@ -42,7 +42,7 @@ module _ (M : Model) (fits : FitsBytes M) where
       (same-history calls (stepOnBytes M a call .bytes) (keeps M fits .bytesKept a call bytes p) (keeps M fits .areaKept a call bytes p)
       ∙ ap (λ (T : State). history (step M) T calls) next)
 
-  same-final : (calls : List Call) (a : List ℕ) → Bytes a → wellFormed M a ≡ true → stateOf M (bytesAfter M a calls) ≡ final (step M) (stateOf M a) calls
+  pub same-final : (calls : List Call) (a : List ℕ) → Bytes a → wellFormed M a ≡ true → stateOf M (bytesAfter M a calls) ≡ final (step M) (stateOf M a) calls
   unfolding bytesAfter final
   same-final [] a bytes p = refl
   same-final (call ∷ calls) a bytes p =
@@ -53,11 +53,11 @@ module _ (M : Model) (fits : FitsBytes M) where
       same-final calls (stepOnBytes M a call .bytes) (keeps M fits .bytesKept a call bytes p) (keeps M fits .areaKept a call bytes p)
       ∙ ap (λ (T : State). final (step M) T calls) next
 
-  rest-state : (a : List ℕ) → Bytes a → atRest M a ≡ true → stateAtRest M (stateOf M a) ≡ true
+  pub rest-state : (a : List ℕ) → Bytes a → atRest M a ≡ true → stateAtRest M (stateOf M a) ≡ true
   unfolding atRest stateAtRest
   rest-state a bytes p = and-intro _ _ (state-right M a bytes (and-left _ _ p)) (and-right _ _ p)
 
-  rest-right : (a : List ℕ) → atRest M a ≡ true → wellFormed M a ≡ true
+  pub rest-right : (a : List ℕ) → atRest M a ≡ true → wellFormed M a ≡ true
   unfolding atRest
   rest-right a p = and-left _ _ p
 

@@ -85,7 +85,7 @@ module _ (begun : ℕ → ℕ) (M : Model) (logs : ℕ → List WriteEntry) (S :
   log = subst (LogKnown logs) x (inv .slot-logs i)
 
   -- the slot holds the cell, and what it has left
-  mine : holds (slotAt S i) (entry .cell) ≡ true
+  pub mine : holds (slotAt S i) (entry .cell) ≡ true
   unfolding holds _or_
   mine =
       subst (λ (y : Slot). holds y (getD writes count noWrite .cell) ≡ true) (sym x)
@@ -95,7 +95,7 @@ module _ (begun : ℕ → ℕ) (M : Model) (logs : ℕ → List WriteEntry) (S :
   unfolding holds
   holds-left c w = subst (λ (y : Slot). holds y c ≡ true) (sym x) w
 
-  lower : (c : ℕ) → holds (slotAt S i) c ≡ true → cellAt S c .stamp < commit
+  pub lower : (c : ℕ) → holds (slotAt S i) c ≡ true → cellAt S c .stamp < commit
   lower c held =
       let stamp : commitOf (slotAt S i) ≡ commit = ap commitOf x in
       let above = positive in

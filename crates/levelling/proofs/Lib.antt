@@ -1,0 +1,11 @@
+pub mod Cases
+pub mod AsCalls
+pub mod ReadLaws
+pub mod Leaves
+pub mod Refuses
+pub mod SignedWords
+pub mod CountsUp
+pub mod StampsRise
+pub mod NeverFalls
+pub mod AtC
+pub mod Mix

@@ -6,7 +6,7 @@ use mathlib.Core.Path.{_≡_}
 use Prim.Native.Nat.{ℕ, _/_, _%_, _^_}
 use Rattle.wire.specs.Field.{Bytes}
 use Rattle.rules.specs.Model.{controller}
-use Rattle.rules.specs.State.{State, cellAt}
+use Rattle.rules.specs.State.{cellAt}
 use Rattle.rules.specs.Step.{Call}
 use Rattle.rules.specs.Layout.{stateOf}
 use Rattle.rules.specs.AreaRight.{wellFormed}

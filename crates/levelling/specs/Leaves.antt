@@ -1,7 +1,8 @@
 -- What the reads give, and what the operation leaves in the transaction's logs.
 use mathlib.Core.Bool.{Bool, true, false}
 use mathlib.Core.List.{List, [], _∷_, map}
-use mathlib.Core.Option.{Option, none, some}
+use mathlib.Core.Logic.{_⊎_}
+use mathlib.Core.Option.{none, some}
 use mathlib.Core.Path.{_≡_}
 use Prim.Native.Nat.{ℕ, suc, pred, _<_, _≤_}
 use lib.ListN.{length, getD, take}
@@ -9,7 +10,7 @@ use Rattle.call.specs.declared.Reply.{Reply}
 use Rattle.call.specs.Answer.{replyCode}
 use Rattle.slot.specs.declared.ReadEntry.{ReadEntry}
 use Rattle.slot.specs.declared.WriteEntry.{WriteEntry}
-use Rattle.slot.specs.Logic.{_or_, All}
+use Rattle.slot.specs.Logic.{_or_}
 use Rattle.rules.specs.Model.{Model}
 use Rattle.rules.specs.State.{State, opened, cellAt, slotAt, startOf, turn}
 use Rattle.rules.specs.StateRight.{stateRight}
@@ -37,9 +38,10 @@ abbrev pub inTheWay : State → ℕ → ℕ → Bool
 inTheWay S slot c = heldByOther (pred slot) (cellAt S c) or newer (startOf (slotAt S (pred slot))) (cellAt S c)
 
 pub record Leaves (M : Model) : Type 0 where
-  -- All cells are read: the words are the shared cells', every cell is in the read log, and nothing is written.
+  -- All cells are read: none is in the way, the words are the shared cells', every cell is in the read log, and nothing is written.
   pub allRead : (S : State) (set : List ℕ) (slot : ℕ) (words : List ℕ) (T : State) → stateRight M S ≡ true → admitted M S set slot ≡ true
-      → readFirst M S slot set (length set) ≡ going words T → (words ≡ wordsOf S set) × (T ≡ withLogs S slot set [])
+      → readFirst M S slot set (length set) ≡ going words T
+      → (words ≡ wordsOf S set) × (T ≡ withLogs S slot set []) × ((place : ℕ) → place < length set → inTheWay S slot (getD set place 0) ≡ false)
   -- A read is refused: its code is 10, at the first cell of the set that can't be read, and the reads before it stay in the log.
   pub refusedRead : (S : State) (set : List ℕ) (slot place : ℕ) (reply : Reply) (T : State) → stateRight M S ≡ true → admitted M S set slot ≡ true
       → readFirst M S slot set (length set) ≡ stopped place reply T
@@ -55,3 +57,19 @@ pub record Leaves (M : Model) : Type 0 where
       × (negativeAt (wordsOf S set) (groupCount set) ≡ none)
       × (wear M S set slot .state
       ≡ withLogs S slot set (record { cell = getD set (erasesPlace g) 0; word = suc (erases (wordsOf S set) g) } ∷ []))
+  -- Of what it answers once it has begun: 10 is the only core code that can come.
+  pub codes : (S : State) (set : List ℕ) (slot : ℕ) → stateRight M S ≡ true → admitted M S set slot ≡ true
+      → let code = wear M S set slot .code in
+      (code ≡ 0) ⊎ (code ≡ 10) ⊎ (code ≡ 33) ⊎ (code ≡ 34)
+  -- It comes with kind and word 0, at the first cell that can't be read, and leaves the reads before it in the log ..
+  pub conflicts : (S : State) (set : List ℕ) (slot : ℕ) → stateRight M S ≡ true → admitted M S set slot ≡ true → wear M S set slot .code ≡ 10
+      → let w = wear M S set slot in
+      (w .kind ≡ 0)
+      × (w .word ≡ 0)
+      × (w .place < length set)
+      × (inTheWay S slot (getD set (w .place) 0) ≡ true)
+      × ((earlier : ℕ) → earlier < w .place → inTheWay S slot (getD set earlier 0) ≡ false)
+      × (w .state ≡ withLogs S slot (take (w .place) set) [])
+  -- .. and 33 and 34 leave all of them, and nothing written.
+  pub unwritten : (S : State) (set : List ℕ) (slot : ℕ) → stateRight M S ≡ true → admitted M S set slot ≡ true → 33 ≤ wear M S set slot .code
+      → wear M S set slot .state ≡ withLogs S slot set []

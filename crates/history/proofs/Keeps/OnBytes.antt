@@ -69,7 +69,7 @@ module _ (M : Model) (fits : FitsBytes M) where
       rw (stepped M a call (good .right))
       (answered-good a good (stateOf M a) (step M (stateOf M a) call) (step-keeps M (stateOf M a) call (state-right M a (good .bytes) (good .right))))
 
-  run-good : (a : List ℕ) (calls : List Call) → Good M a → Good M (bytesAfter M a calls)
+  pub run-good : (a : List ℕ) (calls : List Call) → Good M a → Good M (bytesAfter M a calls)
   unfolding bytesAfter
   run-good a [] good = good
   run-good a (call ∷ calls) good = run-good (stepOnBytes M a call .bytes) calls (step-good a call good)
