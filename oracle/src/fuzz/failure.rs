@@ -75,8 +75,9 @@ pub fn differences(
 }
 
 fn in_parts(number: u64) -> String {
-    let (code, kind, word) = (number >> 40, number >> 32 & 0xff, number & 0xffff_ffff);
-    format!("code {code}, kind {kind}, word {word:08x} ({number:#x})")
+    let (place, code) = (number >> 48, number >> 40 & 0xff);
+    let (kind, word) = (number >> 32 & 0xff, number & 0xffff_ffff);
+    format!("code {code}, kind {kind}, word {word:08x}, place {place} ({number:#x})")
 }
 
 /// What stands at a place of an area, as far as its length tells.
