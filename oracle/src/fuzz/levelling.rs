@@ -25,7 +25,7 @@ impl Round<'_> {
         let (area, machine) = self.fresh(&values, 0)?;
         let sets = [(); 2].map(|()| self.random.wear_set(&machine, 1));
         let mut walk = Walk { area, machine, levelled: [false; SLOTS] };
-        let slots = self.random.pick(&[2, 3, 5, 8]).unwrap_or(2);
+        let slots = self.random.pick(&[1, 2, 3, 8]).unwrap_or(2);
         let habit = Habit { slots, patience: self.random.between(1, 2) };
         for _ in 0..150 {
             let call = self.random.call_among_tasks(&walk.machine, habit);
@@ -63,11 +63,12 @@ impl Round<'_> {
     }
 
     /// Other slots hold cells or have published newer ones.
-    pub(super) fn level_on_any_areas(&mut self) -> Made {
-        for _ in 0..150 {
-            let (machine, open) = self.random.machine_to_level();
+    pub(super) fn level_on_any_area(&mut self) -> Made {
+        let (machine, open) = self.random.machine_to_level();
+        let area = machine.pack();
+        for _ in 0..4 {
             let (set, slot) = self.random.wear_arguments(&machine, open);
-            self.wear(&mut machine.pack(), &set, slot)?;
+            self.wear(&mut area.clone(), &set, slot)?;
         }
         Ok(())
     }

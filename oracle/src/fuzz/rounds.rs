@@ -84,7 +84,7 @@ impl Round<'_> {
             Sort::EveryStepAndSlot => self.every_step_and_slot(),
             Sort::LayOut => self.lay_outs(),
             Sort::WearWalk => self.tasks_that_level(),
-            Sort::WearAnyArea => self.level_on_any_areas(),
+            Sort::WearAnyArea => (0..35).try_for_each(|_| self.level_on_any_area()),
             Sort::WearSpoilt => self.level_on_spoilt_areas(),
         }
     }

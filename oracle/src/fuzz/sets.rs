@@ -67,7 +67,8 @@ impl Random {
         }
         let (clock, any) = (machine.clock, self.up_to(machine.clock));
         let few_newer = clock - clock / 16;
-        let start = self.pick(&[clock, clock, clock, few_newer, few_newer, any]).unwrap_or(clock);
+        let start =
+            self.pick(&[clock, clock, clock, clock, few_newer, few_newer, any]).unwrap_or(clock);
         let place = self.place(SLOTS);
         machine.slots[place] = Some(Transaction::begun(start));
         (machine, place as u8 + 1)
@@ -96,7 +97,7 @@ impl Random {
         let erases = self.cells_to_read(machine, slot, Kind::Whole);
         let pairs = truths.into_iter().zip(erases).take(groups);
         let mut set: Vec<u8> = pairs.flat_map(|(truth, erases)| [truth, erases]).collect();
-        if self.one_in(3) {
+        if self.one_in(5) {
             self.put_in_the_way(&mut set, machine, slot);
         }
         set
@@ -109,8 +110,8 @@ impl Random {
         while !left.is_empty() {
             cells.push(left.swap_remove(self.place(left.len())));
         }
-        if !self.one_in(6) {
-            cells.sort_by_key(|cell| !is_readable(machine, slot, *cell));
+        if !self.one_in(12) {
+            cells.sort_by_cached_key(|cell| !is_readable(machine, slot, *cell));
         }
         cells
     }

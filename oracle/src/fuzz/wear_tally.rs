@@ -10,7 +10,7 @@ use crate::wear::GROUPS_AT_MOST;
 
 /// The codes that there are, in the order in which they are tested.
 const CODES: [(u8, u64); 8] =
-    [(0, 3000), (1, 2000), (32, 3000), (3, 500), (4, 1000), (10, 3000), (33, 500), (34, 1000)];
+    [(0, 2000), (1, 4000), (32, 2500), (3, 800), (4, 1500), (10, 4000), (33, 300), (34, 1000)];
 
 /// Counts of the operations that were answered alike.
 #[derive(Clone, Debug, Default)]
@@ -75,14 +75,14 @@ impl WearTally {
         let rarest = |counts: &[u64]| counts.iter().copied().min().unwrap_or(0);
         let named = [
             ("wear code 10 at the place with fewest of them", rarest(&self.refused_reads), 20),
-            ("wear code 33 at the place with fewest of them", rarest(&self.negatives), 10),
-            ("wear code 33 for a group that is not usable", self.negatives_of_unusable, 100),
-            ("wear code 34 with a usable group at the last count", self.worn_out, 200),
+            ("wear code 33 at the place with fewest of them", rarest(&self.negatives), 6),
+            ("wear code 33 for a group that is not usable", self.negatives_of_unusable, 80),
+            ("wear code 34 with a usable group at the last count", self.worn_out, 300),
             ("picks of a group above 0", self.picks[1..].iter().sum(), 1000),
             ("picks of the group with fewest of them", rarest(&self.picks), 20),
-            ("picks on a tie", self.ties, 500),
-            ("picks beside an unusable group with fewer erases", self.unusable_with_fewer, 300),
-            ("commits of tasks that levelled", self.commits, 300),
+            ("picks on a tie", self.ties, 400),
+            ("picks beside an unusable group with fewer erases", self.unusable_with_fewer, 250),
+            ("commits of tasks that levelled", self.commits, 200),
         ];
         counts.extend(named.map(|(name, count, least)| (name.to_string(), count, least)));
         counts
