@@ -60,11 +60,11 @@ fn set_is_good(peek: &Peek, set: &[u8], slip: Slip) -> bool {
     let most = if slip == Slip::TakesNineGroups { 18 } else { 16 };
     let cell_is_good = |place: usize| {
         let cell = usize::from(set[place]);
-        let right_kind = if place % 2 == 0 { 1 } else { 2 };
+        let right_kind = if place.is_multiple_of(2) { 1 } else { 2 };
         cell < peek.n() && peek.kind(cell) == right_kind && !set[..place].contains(&set[place])
     };
     let length = set.len();
-    length > 0 && length <= most && length % 2 == 0 && (0..length).all(cell_is_good)
+    length > 0 && length <= most && length.is_multiple_of(2) && (0..length).all(cell_is_good)
 }
 
 fn level(area: &mut [u8], set: &[u8], slot: u8, slip: Slip) -> u64 {
