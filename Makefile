@@ -4,7 +4,7 @@
 # make guide:   builds and runs the program in docs/GUIDE.md, and compares what it prints.
 # make guide-sheets: runs the step sheets in docs/GUIDE.md, and compares what they print.
 # make fuzz:    random calls at the C functions against the second program (CALLS, SEED), or one ROUND of a seed again.
-# make bench:   the ratio to the Rust yardstick, the stack and the instructions of each step, the time of a sheet.
+# make bench:   the ratio to the Rust yardstick, the stack and the instructions of each step and of the wear task, the time of a sheet.
 # make run:     proves and builds the program that runs step sheets, and runs SHEET (text or binary) on it.
 # make sheet:   runs SHEET on the second program.
 # make timeline: the run of SHEET in lanes, as text or (SVG=file.svg) as a picture.
@@ -16,6 +16,7 @@ SEED ?= 1
 # when this make began, so that the gate can say how long it took
 BEGAN := $(shell date +%s)
 LIBRARY := target/staticlib/libcrocktendril.a
+WEAR := target/staticlib/libwear.a
 # The crates that the library is made of, and their files. Folders count as files: one that lost a file is newer.
 LIBRARY_CRATES := crocktendril $(shell sed -n 's/^crocktendril: //p' crates.txt)
 LIBRARY_SOURCES := crates.txt $(shell find $(wildcard $(foreach part,src specs proofs,$(LIBRARY_CRATES:%=crates/%/$(part)))))
@@ -111,10 +112,11 @@ fuzz: lib linked
 
 bench: lib linked second
 	@mkdir -p target/c target/sheets
-	gcc -std=c99 $(STRICT) oracle/linked/measure.c $(LIBRARY) -Wl,-z,now -o target/c/measure
+	gcc -std=c99 $(STRICT) oracle/linked/measure.c $(WEAR) $(LIBRARY) -Wl,-z,now -o target/c/measure
 	$(LINKED)/bench
 	$(SECOND)/sheet_time $(PROGRAM) target/sheets
 	{ $(LINKED)/bench cases; $(LINKED)/bench sheet; } | target/c/measure stack
+	$(LINKED)/bench wear | target/c/measure wear-stack
 	python3 oracle/linked/instructions.py $(LINKED)/bench target/c/measure
 
 run: program second

@@ -1,12 +1,14 @@
-"""Counts the instructions of a step, by callgrind.
+"""Counts the instructions of a step and of the wear task, by callgrind.
 
 usage: instructions.py BENCH MEASURE
 
 BENCH and MEASURE are the programs of this folder. `BENCH cases` gives the
 cases in which each step has most to do. `MEASURE calls` makes them with the
-proved library, and `BENCH calls` with the yardstick in Rust. Callgrind counts
-within the one function that makes a step, what it calls included, and writes a
-file after each call of it.
+proved library, and `BENCH calls` with the yardstick in Rust. `BENCH wear`,
+`MEASURE wear-calls` and `BENCH wear-calls` do the same for the wear task. Callgrind
+counts within the one function that makes a step or levels, what it calls
+included, and writes a file after each call of it. It fails if the wear task
+takes more than is allowed.
 """
 import glob
 import os
@@ -19,6 +21,10 @@ STEPS = ['no such step', 'begin', 'read', 'write', 'close', 'lock', 'enter', 're
          'ignore', 'finish', 'publish', 'give up']
 DONE = (0, 13)
 REFUSED = range(1, 13)
+WEAR_REFUSED = (10, 33, 34)
+WEAR_GROUPS = (8, 1)
+# of a call with eight groups, one of which is picked
+WEAR_ALLOWED = 31000
 
 
 def counted(out):
@@ -31,12 +37,12 @@ def counted(out):
     return totals
 
 
-def measure(function, program, cases):
-    """For each call that the program makes: the step, the code and the instructions."""
+def measure(function, program, mode, cases):
+    """For each call that the program makes: the step (or the groups), the code and the instructions."""
     with tempfile.TemporaryDirectory() as folder:
         out = os.path.join(folder, 'callgrind')
         command = ['valgrind', '-q', '--tool=callgrind', '--callgrind-out-file=' + out,
-                   '--toggle-collect=' + function, '--dump-after=' + function, program, 'calls']
+                   '--toggle-collect=' + function, '--dump-after=' + function, program, mode]
         said = subprocess.run(command, check=True, input=cases, stdout=subprocess.PIPE).stdout
         made = [tuple(map(int, line.split())) for line in said.decode('ascii').splitlines()]
         totals = counted(out)
@@ -66,12 +72,42 @@ def table(library, rust):
     print('ratio of the library to Rust over all these calls: %.2f' % ratio)
 
 
+def wear_table(library, rust):
+    """A line for each number of groups, and whether the most of them take no more than is allowed."""
+    print('instructions of a wear call, 64 cells and the 7 other slots busy with full logs, the worst of each:')
+    line = '%-12s  %8s %8s %6s  %8s %8s %6s'
+    print(line % ('', 'done:', '', '', 'refused:', '', ''))
+    print(line % ('groups', 'library', 'Rust', 'ratio', 'library', 'Rust', 'ratio'))
+    for groups in WEAR_GROUPS:
+        counts = []
+        for codes in ((0,), WEAR_REFUSED):
+            one, other = worst(library, groups, codes), worst(rust, groups, codes)
+            counts += [one, other, '%.2f' % (one / other)]
+        print(line % (groups, *counts))
+    most = worst(library, WEAR_GROUPS[0], (0,))
+    over = most > WEAR_ALLOWED
+    print('%d groups, one of them picked: %d, allowed: %d%s'
+          % (WEAR_GROUPS[0], most, WEAR_ALLOWED, ', TOO MANY' if over else ''))
+    return not over
+
+
+def cases_of(bench, mode):
+    """What the bench writes for other programs to make."""
+    return subprocess.run([bench, mode], check=True, stdout=subprocess.PIPE).stdout
+
+
 def main():
     if len(sys.argv) != 3:
         sys.exit(__doc__)
     bench, program = sys.argv[1:]
-    cases = subprocess.run([bench, 'cases'], check=True, stdout=subprocess.PIPE).stdout
-    table(measure('crocktendril_step', program, cases), measure('oracle::inplace::step_in_place', bench, b''))
+    table(measure('crocktendril_step', program, 'calls', cases_of(bench, 'cases')),
+          measure('oracle::inplace::step_in_place', bench, 'calls', b''))
+    library = measure('crocktendril_wear', program, 'wear-calls', cases_of(bench, 'wear'))
+    rust = measure('oracle::inplace::wear::wear_in_place', bench, 'wear-calls', b'')
+    if [call[:2] for call in library] != [call[:2] for call in rust]:
+        sys.exit('the wear tasks differ: run the fuzzer')
+    if not wear_table(library, rust):
+        sys.exit(1)
 
 
 main()

@@ -9,6 +9,13 @@
  *                   prints the most bytes of stack that each needed; fails
  *                   above 1 KB
  *
+ * Or makes the wear task's operations that are there, as `bench wear` writes
+ * them: 2,486 bytes of area, the slot, the length of the set, 16 for the set.
+ *
+ *   measure wear-calls  makes each and prints the number of its groups and its
+ *                       code, likewise
+ *   measure wear-stack  prints the most bytes of stack that one of them needed
+ *
  * It is to be linked with -z now: the first call of a function of the C library
  * would else be charged with looking it up.
  */
@@ -20,9 +27,11 @@
 #include <ucontext.h>
 
 #include "crocktendril.h"
+#include "crocktendril_wear.h"
 
 #define AREA_LENGTH CROCKTENDRIL_AREA_LENGTH(CROCKTENDRIL_CELLS_MAX)
 #define STEPS 14
+#define SET_MAX 16
 #define STACK_LENGTH 65536
 #define STACK_ALLOWED 1024
 
@@ -34,7 +43,14 @@ struct record {
     uint8_t call[8];
 };
 
+struct wear_record {
+    uint8_t area[AREA_LENGTH];
+    uint8_t slot, set_length;
+    uint8_t set[SET_MAX];
+};
+
 static struct record present;
+static struct wear_record present_wear;
 static step_function *present_function;
 static uint64_t present_reply;
 
@@ -67,6 +83,15 @@ static uint64_t lay_out(uint8_t *area, size_t area_len, uint8_t step, uint8_t sl
     (void)step, (void)slot, (void)cell, (void)kind, (void)word;
     memset(descriptions, CROCKTENDRIL_KIND_WHOLE, sizeof descriptions);
     return crocktendril_lay_out(area, area_len, descriptions, sizeof descriptions);
+}
+
+/* The wear task's operation, with the arguments of a step. */
+static uint64_t wear(uint8_t *area, size_t area_len, uint8_t step, uint8_t slot, uint8_t cell,
+                     uint8_t kind, uint32_t word)
+{
+    (void)step, (void)slot, (void)cell, (void)kind, (void)word;
+    return crocktendril_wear(area, area_len, present_wear.set, present_wear.set_length,
+                             present_wear.slot);
 }
 
 /* Leaves by a switch and not by a return: that would use this stack again. */
@@ -118,6 +143,14 @@ static int next_record(void)
     return fread(&present, sizeof present, 1, stdin) == 1;
 }
 
+static int next_wear_record(void)
+{
+    if (fread(&present_wear, sizeof present_wear, 1, stdin) != 1)
+        return 0;
+    memcpy(present.area, present_wear.area, sizeof present.area);
+    return 1;
+}
+
 static int calls(void)
 {
     present_function = crocktendril_step;
@@ -147,6 +180,27 @@ static int stack(void)
     return worst > STACK_ALLOWED;
 }
 
+/* The place stands above the code. */
+static int wear_calls(void)
+{
+    present_function = wear;
+    while (next_wear_record()) {
+        make_step();
+        printf("%u %u\n", present_wear.set_length / 2u, (unsigned)(present_reply >> 40 & 0xff));
+    }
+    return 0;
+}
+
+static int wear_stack(void)
+{
+    size_t worst = 0;
+
+    while (next_wear_record())
+        worst = greater(worst, stack_of(wear));
+    printf("stack of a wear call in bytes: %lu\n", (unsigned long)worst);
+    return worst == 0;
+}
+
 int main(int count, char **words)
 {
     const char *mode = count == 2 ? words[1] : "";
@@ -155,6 +209,10 @@ int main(int count, char **words)
         return calls();
     if (strcmp(mode, "stack") == 0)
         return stack();
-    fprintf(stderr, "usage: measure calls|stack\n");
+    if (strcmp(mode, "wear-calls") == 0)
+        return wear_calls();
+    if (strcmp(mode, "wear-stack") == 0)
+        return wear_stack();
+    fprintf(stderr, "usage: measure calls|stack|wear-calls|wear-stack\n");
     return 2;
 }

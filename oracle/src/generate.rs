@@ -129,9 +129,18 @@ impl Random {
     /// A well-formed machine, also such a one as no steps lead to.
     pub fn machine(&mut self) -> Machine {
         let n = self.cell_count();
+        self.machine_with(n, Random::values)
+    }
+
+    /// Such a machine with so many cells, whose values are drawn by a function.
+    pub fn machine_with(
+        &mut self,
+        n: usize,
+        values: fn(&mut Random, usize) -> Vec<Value>,
+    ) -> Machine {
         let edge = self.up_to(20);
         let clock = self.pick(&[edge, edge << 32, u64::MAX - edge, u64::MAX]).unwrap_or(0);
-        let values = self.values(n);
+        let values = values(self, n);
         let cells = values.into_iter().map(|value| Cell { value, stamp: self.up_to(clock) });
         let mut machine = Machine { clock, cells: cells.collect(), slots: Default::default() };
         for place in 0..machine.slots.len() {

@@ -9,8 +9,10 @@
 //! - [`Machine::pack`] and [`Machine::unpack`] go to and from the area's bytes.
 //! - [`step_on_bytes`] and [`lay_out_on_bytes`] are the two functions that a
 //!   C runtime calls.
-//! - [`step_in_place`] makes the same step on the bytes themselves, as a
-//!   yardstick of time, and [`fuzz`] compares a library with this one.
+//! - [`wear_on_bytes`] is the wear task on top of them, made of steps.
+//! - [`step_in_place`] and [`wear_in_place`] make the same on the bytes
+//!   themselves, as a yardstick of time, and [`fuzz`] compares a library with
+//!   this one.
 //! - [`Sheet`] is a step sheet, with a binary form and a [`text`] form, and
 //!   [`run`] makes its output; [`compare`] compares a program that runs sheets
 //!   with it, and [`Timeline`] draws the run.
@@ -31,6 +33,7 @@ pub mod run;
 pub mod text;
 pub mod timeline;
 pub mod value;
+pub mod wear;
 pub mod wellformed;
 
 mod bytes;
@@ -40,10 +43,11 @@ mod steps;
 pub use area::{area_length, lay_out_on_bytes, step_on_bytes};
 pub use binary::{describe, BadSheet, Sheet};
 pub use call::{Call, Refusal, Reply, Step};
-pub use inplace::step_in_place;
+pub use inplace::{step_in_place, wear_in_place};
 pub use machine::{Cell, Commit, Machine, Phase, Read, Transaction, Write};
 pub use random::Random;
 pub use text::TextError;
 pub use timeline::Timeline;
 pub use value::{Kind, Value};
+pub use wear::{wear_on_bytes, WearRefusal};
 pub use wellformed::{faults, well_formed};

@@ -8,7 +8,8 @@
 use std::ops::Range;
 
 use oracle::machine::CELLS_AT_MOST;
-use oracle::{Call, Kind, Machine, Step, Value};
+use oracle::wear::GROUPS_AT_MOST;
+use oracle::{Call, Machine, Step, Value};
 use Step::*;
 
 /// An area and the step to be made on it.
@@ -21,7 +22,18 @@ pub struct Case {
     pub code: u8,
 }
 
-const SUBJECT: u8 = 8;
+/// An area and the wear set to level with on it, in the slot of the subject.
+pub struct WearCase {
+    /// The area before the operation.
+    pub area: Vec<u8>,
+    /// The set.
+    pub set: Vec<u8>,
+    /// The number that it is to answer.
+    pub number: u64,
+}
+
+/// The slot that makes the step.
+pub const SUBJECT: u8 = 8;
 
 /// The cell that another slot publishes after the subject has read it: the
 /// last of its reads, so that its mark is found last.
@@ -41,6 +53,61 @@ pub fn all() -> Option<Vec<Case>> {
     cases.extend(after_twilight(&entered));
     cases.extend(whatever_the_slot(&idle));
     Some(cases)
+}
+
+/// For the most groups and for one: the case in which all cells are read and
+/// the last group is picked, and those that are refused after the last read or
+/// at it.
+pub fn wear() -> Option<Vec<WearCase>> {
+    let mut cases = Vec::new();
+    for groups in [GROUPS_AT_MOST, 1] {
+        cases.extend(wear_of(groups)?);
+    }
+    Some(cases)
+}
+
+/// Each group has fewer erases than the one before it. The cells of the set
+/// are those that no other slot holds, the last of them in the last place.
+fn wear_of(groups: usize) -> Option<[WearCase; 4]> {
+    let last = groups - 1;
+    let place = (2 * last + 1) as u64;
+    let fewer = |group: usize| (true, (GROUPS_AT_MOST - group) as i32);
+    let good: Vec<(bool, i32)> = (0..groups).map(fewer).collect();
+    let mut negative = good.clone();
+    negative[last] = (false, -1);
+    let worn_out = vec![(true, i32::MAX); groups];
+    let set: Vec<u8> = (0..HELD).skip(usize::from(HELD) - 2 * groups).collect();
+    let mut set_held = set.clone();
+    // Of the right kind, and held by another slot.
+    set_held[2 * last + 1] = HELD;
+    let case = |read: &[(bool, i32)], set: &[u8], number| {
+        let stage = Stage::set_on(&values_with(read), 0..0)?.then(Begin);
+        Some(WearCase { area: stage.0.pack(), set: set.to_vec(), number })
+    };
+    Some([
+        case(&good, &set, (2 << 32) + last as u64)?,
+        case(&good, &set_held, (place << 48) + (10 << 40))?,
+        case(&negative, &set, (place << 48) + (33 << 40))?,
+        case(&worn_out, &set, 34 << 40)?,
+    ])
+}
+
+/// Cells of all kinds, but for these groups right before the held cells.
+fn values_with(groups: &[(bool, i32)]) -> Vec<Value> {
+    let cells =
+        groups.iter().map(|(usable, erases)| [Value::Truth(*usable), Value::Whole(*erases)]);
+    let mut values: Vec<Value> = usual_values();
+    let from = usize::from(HELD) - 2 * groups.len();
+    for (value, cell) in values[from..].iter_mut().zip(cells.flatten()) {
+        *value = cell;
+    }
+    values
+}
+
+/// One of each kind in turn.
+fn usual_values() -> Vec<Value> {
+    let one_of_each = [Value::Truth(true), Value::Whole(1), Value::Real(f32::from_bits(1))];
+    one_of_each.into_iter().cycle().take(CELLS_AT_MOST).collect()
 }
 
 fn before_locking(idle: &Stage) -> Vec<Case> {
@@ -127,9 +194,12 @@ impl Stage {
     /// The others in their places, after the subject has begun and read these
     /// cells. It is idle if there are none.
     fn set(early_reads: Range<u8>) -> Option<Stage> {
-        let value = |cell: usize| Value::described(Kind::ALL[cell % 3].number(), 1);
-        let values: Option<Vec<Value>> = (0..CELLS_AT_MOST).map(value).collect();
-        let mut stage = Stage(Machine::fresh(&values?)?);
+        Stage::set_on(&usual_values(), early_reads)
+    }
+
+    /// The same with other values of the cells.
+    fn set_on(values: &[Value], early_reads: Range<u8>) -> Option<Stage> {
+        let mut stage = Stage(Machine::fresh(values)?);
         if !early_reads.is_empty() {
             stage = stage.then(Begin).each(Read, early_reads);
         }

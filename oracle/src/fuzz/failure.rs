@@ -54,6 +54,10 @@ pub fn differences(
     wanted: Given,
     given: Given,
 ) -> Result<(), String> {
+    let same = given.number == wanted.number && given.bytes == wanted.bytes;
+    if same && given.changed_guard.is_none() {
+        return Ok(());
+    }
     let mut report = String::new();
     if given.number != wanted.number {
         let (wanted, given) = (in_parts(wanted.number), in_parts(given.number));
@@ -68,15 +72,13 @@ pub fn differences(
     if let Some(place) = given.changed_guard {
         add(&mut report, format_args!("a byte outside was changed, at {place}"));
     }
-    if report.is_empty() {
-        return Ok(());
-    }
     Err(format!("{asked}\n{report}the {} bytes before the call:\n{}", before.len(), rows(before)))
 }
 
 fn in_parts(number: u64) -> String {
-    let (code, kind, word) = (number >> 40, number >> 32 & 0xff, number & 0xffff_ffff);
-    format!("code {code}, kind {kind}, word {word:08x} ({number:#x})")
+    let (place, code) = (number >> 48, number >> 40 & 0xff);
+    let (kind, word) = (number >> 32 & 0xff, number & 0xffff_ffff);
+    format!("code {code}, kind {kind}, word {word:08x}, place {place} ({number:#x})")
 }
 
 /// What stands at a place of an area, as far as its length tells.

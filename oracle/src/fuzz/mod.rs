@@ -1,4 +1,4 @@
-//! Random calls at a library with the two functions, each compared with this
+//! Random calls at a library with the three functions, each compared with this
 //! library: the reply, every byte of the area, and guard bytes around it.
 //!
 //! The calls come in rounds. A round follows from the seed and its own number
@@ -6,9 +6,12 @@
 
 mod failure;
 mod guarded;
+mod levelling;
 mod rounds;
+mod sets;
 mod spoil;
 mod tally;
+mod wear_tally;
 
 pub use failure::Failure;
 pub use tally::Tally;
@@ -17,13 +20,15 @@ use crate::call::Call;
 use crate::random::Random;
 use rounds::{Round, Sort};
 
-/// The two functions that are compared.
+/// The three functions that are compared.
 #[derive(Clone, Copy)]
 pub struct Library {
     /// Makes one step on a lent area.
     pub step: fn(&mut [u8], Call) -> u64,
     /// Lays out a fresh area from descriptions.
     pub lay_out: fn(&mut [u8], &[u8]) -> u64,
+    /// Levels on a lent area, with a wear set and in a slot.
+    pub wear: fn(&mut [u8], &[u8], u8) -> u64,
 }
 
 /// Makes rounds until there were this many calls. Before each round it shows

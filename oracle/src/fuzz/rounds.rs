@@ -9,6 +9,7 @@ use crate::call::Call;
 use crate::generate::Habit;
 use crate::machine::Machine;
 use crate::random::Random;
+use crate::value::Value;
 use crate::wellformed::faults;
 
 /// What a round does.
@@ -21,10 +22,13 @@ pub enum Sort {
     Junk,
     EveryStepAndSlot,
     LayOut,
+    WearWalk,
+    WearAnyArea,
+    WearSpoilt,
 }
 
 impl Sort {
-    const ALL: [Sort; 7] = [
+    const ALL: [Sort; 10] = [
         Sort::Walk,
         Sort::LastStamps,
         Sort::AnyArea,
@@ -32,6 +36,9 @@ impl Sort {
         Sort::Junk,
         Sort::EveryStepAndSlot,
         Sort::LayOut,
+        Sort::WearWalk,
+        Sort::WearAnyArea,
+        Sort::WearSpoilt,
     ];
 
     pub fn of(round: u64) -> Sort {
@@ -47,6 +54,9 @@ impl Sort {
             Sort::Junk => "junk of any length",
             Sort::EveryStepAndSlot => "every step and slot on one area",
             Sort::LayOut => "lay-outs",
+            Sort::WearWalk => "tasks that level, from a fresh area",
+            Sort::WearAnyArea => "wear tasks on any well-formed areas",
+            Sort::WearSpoilt => "wear tasks on damaged areas and junk",
         }
     }
 }
@@ -58,7 +68,7 @@ pub struct Round<'a> {
     pub tally: &'a mut Tally,
 }
 
-type Made = Result<(), String>;
+pub type Made = Result<(), String>;
 
 impl Round<'_> {
     pub fn make(&mut self, sort: Sort) -> Made {
@@ -73,17 +83,17 @@ impl Round<'_> {
             Sort::Junk => self.junk(),
             Sort::EveryStepAndSlot => self.every_step_and_slot(),
             Sort::LayOut => self.lay_outs(),
+            Sort::WearWalk => self.tasks_that_level(),
+            Sort::WearAnyArea => (0..35).try_for_each(|_| self.level_on_any_area()),
+            Sort::WearSpoilt => self.level_on_spoilt_areas(),
         }
     }
 
     /// Steps one after the other, from a fresh area with another clock.
     fn walk(&mut self, clock: u64, steps: u64) -> Made {
         let n = self.random.cell_count();
-        let descriptions = describe(&self.random.values(n));
-        let mut area = self.bytes(area_length(n));
-        self.lay_out(&mut area, &descriptions)?;
-        area[6..14].copy_from_slice(&clock.to_be_bytes());
-        let mut machine = Machine::unpack(&area).ok_or("a fresh area is not well formed")?;
+        let values = self.random.values(n);
+        let (mut area, mut machine) = self.fresh(&values, clock)?;
         let habit = self.random.habit();
         for _ in 0..steps {
             let call = self.random.likely_call(&machine, habit);
@@ -91,6 +101,19 @@ impl Round<'_> {
             machine.step(call);
         }
         Ok(())
+    }
+
+    /// Lays out an area with these cells and another clock.
+    pub(super) fn fresh(
+        &mut self,
+        values: &[Value],
+        clock: u64,
+    ) -> Result<(Vec<u8>, Machine), String> {
+        let mut area = self.bytes(area_length(values.len()));
+        self.lay_out(&mut area, &describe(values))?;
+        area[6..14].copy_from_slice(&clock.to_be_bytes());
+        let machine = Machine::unpack(&area).ok_or("a fresh area is not well formed")?;
+        Ok((area, machine))
     }
 
     fn any_areas(&mut self) -> Made {
@@ -201,7 +224,7 @@ impl Round<'_> {
     }
 
     /// Makes the step on both and leaves the area as it then is.
-    fn step(&mut self, area: &mut [u8], call: Call) -> Made {
+    pub(super) fn step(&mut self, area: &mut [u8], call: Call) -> Made {
         let before = area.to_vec();
         let Call { step, slot, cell, kind, word } = call;
         let number = step_on_bytes(area, step, slot, cell, kind, word);

@@ -2,11 +2,12 @@
 
 use std::fmt;
 
+use super::wear_tally::WearTally;
 use crate::call::Call;
 use crate::wellformed::{sentences, SENTENCE_COUNT};
 
 /// The least counts are those of so many calls; others are in proportion.
-const LEAST_COUNTS_ARE_FOR: u64 = 200_000;
+const LEAST_COUNTS_ARE_FOR: u64 = 250_000;
 
 /// Counts of the calls that were answered alike.
 #[derive(Clone, Debug, Default)]
@@ -16,6 +17,7 @@ pub struct Tally {
     marks: u64,
     ignores: u64,
     lay_outs: [u64; 7],
+    pub(super) wear: WearTally,
     /// Areas with some bytes changed that are well formed all the same.
     still_well_formed: u64,
     /// Areas in which no other sentence is broken, for each sentence.
@@ -23,12 +25,12 @@ pub struct Tally {
 }
 
 /// What is counted, how often it was there, and how often it has to be.
-type Count = (String, u64, u64);
+pub(super) type Count = (String, u64, u64);
 
 impl Tally {
-    /// Calls of both functions.
+    /// Calls of all functions.
     pub fn calls(&self) -> u64 {
-        self.codes.iter().chain(&self.lay_outs).sum()
+        self.codes.iter().chain(&self.lay_outs).sum::<u64>() + self.wear.calls()
     }
 
     pub(super) fn note_step(&mut self, call: Call, number: u64, changed: bool) {
@@ -95,6 +97,7 @@ impl Tally {
         for (sentence, count) in sentences().zip(self.alone) {
             counts.push((format!("broken alone: {sentence}"), count, 5));
         }
+        counts.extend(self.wear.counts());
         counts
     }
 }

@@ -7,6 +7,9 @@
 mod check;
 mod steps;
 pub(crate) mod view;
+mod wear;
+
+pub use wear::wear_in_place;
 
 use crate::call::{Call, Refusal, Reply, Step};
 use steps::Turn;

@@ -1,12 +1,19 @@
 //! The fuzzer passes what is right and catches what is wrong.
 
 use oracle::fuzz::{fuzz, one_round, Failure, Library, Tally};
-use oracle::{lay_out_on_bytes, step_in_place, step_on_bytes, Call};
+use oracle::{lay_out_on_bytes, step_in_place, step_on_bytes, wear_in_place, wear_on_bytes, Call};
 
 use crate::peek::Peek;
+use crate::slips::{self, Slip};
 
 pub type StepOnBytes = fn(&mut [u8], Call) -> u64;
 type LayOut = fn(&mut [u8], &[u8]) -> u64;
+type Wear = fn(&mut [u8], &[u8], u8) -> u64;
+
+/// As many calls as the least counts are for.
+const CALLS: u64 = 250_000;
+
+const RIGHT: Library = Library { step, lay_out: lay_out_on_bytes, wear: wear_on_bytes };
 
 /// Each is wrong in one way.
 pub const WRONG_STEPS: [(&str, StepOnBytes); 11] = [
@@ -41,6 +48,46 @@ const WRONG_LAY_OUTS: [(&str, LayOut); 4] = [
     ("takes 65 cells", |area, descriptions| match descriptions.len() {
         325 if area.len() == 2500 => 0,
         _ => lay_out_on_bytes(area, descriptions),
+    }),
+];
+
+macro_rules! slips {
+    ($($slip:ident),*) => {
+        [$((stringify!($slip), |area, set, slot| slips::wear(area, set, slot, Slip::$slip))),*]
+    };
+}
+
+/// The operation with each of the slips.
+const SLIPS: [(&str, Wear); 14] = slips!(
+    HighestOnATie,
+    PicksTheLastCount,
+    PicksUnusable,
+    OnlyUsableCountsTested,
+    CountPlusTwo,
+    ErasesCellFirst,
+    PlaceOneTooHigh,
+    PlaceOfTheGroup,
+    NegativeBeforeTheReads,
+    SlotBeforeSet,
+    TakesNineGroups,
+    LogsMayHaveEntries,
+    DropsTheReads,
+    WritesThoughNoneIsLeft
+);
+
+const WRONG_WEARS: [(&str, Wear); 5] = [
+    ("always refuses", |_, _, _| 1 << 40),
+    ("always picks the first", |_, _, _| 2 << 32),
+    ("changes nothing", |area, set, slot| wear_on_bytes(&mut area.to_vec(), set, slot)),
+    ("believes that the set is as long as its last byte says", |area, set, slot| {
+        wear_on_bytes(area, &set[..set.len() % 256], slot)
+    }),
+    ("clears an area that is not well formed", |area, set, slot| {
+        let number = wear_on_bytes(area, set, slot);
+        if number == 1 << 40 {
+            area.fill(0);
+        }
+        number
     }),
 ];
 
@@ -117,51 +164,80 @@ fn believes_the_areas_own_length(area: &mut [u8], call: Call) -> u64 {
     step(&mut area[..length], call)
 }
 
-fn run(step: StepOnBytes, lay_out: LayOut, calls: u64) -> Result<Tally, Failure> {
-    fuzz(Library { step, lay_out }, 1, calls, &mut |_, _| {})
+fn run(library: Library, calls: u64) -> Result<Tally, Failure> {
+    fuzz(library, 1, calls, &mut |_, _| {})
 }
 
 /// As many calls as the least counts are for, so this is the test of the step
-/// in place, too.
+/// and of the wear task in place, too.
 #[test]
-fn the_step_in_place_is_the_step_and_every_least_count_is_reached() {
-    let tally = run(in_place, lay_out_on_bytes, 200_000);
-    let tally = tally.unwrap_or_else(|failure| panic!("{failure}"));
-    assert!(tally.calls() >= 200_000);
+fn what_is_in_place_is_right_and_every_least_count_is_reached() {
+    let library = Library { step: in_place, wear: wear_in_place, ..RIGHT };
+    let tally = run(library, CALLS).unwrap_or_else(|failure| panic!("{failure}"));
+    assert!(tally.calls() >= CALLS);
     assert_eq!(tally.short(), [""; 0], "{tally}");
+}
+
+/// The slips are tried on an operation that is right without them.
+#[test]
+fn the_wear_task_as_a_list_of_calls_is_right() {
+    let wear: Wear = |area, set, slot| slips::wear(area, set, slot, Slip::Nothing);
+    let library = Library { wear, ..RIGHT };
+    let mut tally = Tally::default();
+    // Rounds of the last three sorts only.
+    for round in (0..2000).filter(|round| round % 10 >= 7) {
+        one_round(library, 1, round, &mut tally).unwrap_or_else(|failure| panic!("{failure}"));
+    }
+    let short = tally.short();
+    assert!(!short.iter().any(|line| line.contains("wear") || line.contains("picks")), "{short:?}");
 }
 
 #[test]
 fn a_run_that_reaches_little_is_told_so() {
     let mut tally = Tally::default();
-    let library = Library { step, lay_out: lay_out_on_bytes };
     // Rounds of the first sort only.
-    for round in (0..4000).step_by(7) {
-        one_round(library, 1, round, &mut tally).unwrap_or_else(|failure| panic!("{failure}"));
+    for round in (0..4000).step_by(10) {
+        one_round(RIGHT, 1, round, &mut tally).unwrap_or_else(|failure| panic!("{failure}"));
     }
     let short = tally.short();
-    assert!(short.iter().any(|line| line.starts_with("code 12")), "{short:?}");
-    assert!(short.iter().any(|line| line.starts_with("broken alone: version 1")), "{short:?}");
+    let is_told = |start: &str| short.iter().any(|line| line.starts_with(start));
+    assert!(is_told("code 12") && is_told("broken alone: version 1"), "{short:?}");
+    for code in [0, 1, 3, 4, 10, 32, 33, 34] {
+        assert!(is_told(&format!("wear code {code}:")), "{code} in {short:?}");
+    }
+    let more = ["wear code 10 at", "wear code 33 at", "wear code 33 for", "wear code 34 with"];
+    let picks = ["picks of a", "picks of the", "picks on", "picks beside", "commits of tasks"];
+    for start in more.into_iter().chain(picks) {
+        assert!(is_told(start), "{start} in {short:?}");
+    }
 }
 
 #[test]
 fn every_wrong_step_is_caught() {
-    for (name, wrong) in WRONG_STEPS {
-        assert!(run(wrong, lay_out_on_bytes, 50_000).is_err(), "{name}");
+    for (name, step) in WRONG_STEPS {
+        assert!(run(Library { step, ..RIGHT }, 50_000).is_err(), "{name}");
     }
 }
 
 #[test]
 fn every_wrong_lay_out_is_caught() {
-    for (name, wrong) in WRONG_LAY_OUTS {
-        assert!(run(step, wrong, 50_000).is_err(), "{name}");
+    for (name, lay_out) in WRONG_LAY_OUTS {
+        assert!(run(Library { lay_out, ..RIGHT }, 50_000).is_err(), "{name}");
+    }
+}
+
+#[test]
+fn every_wrong_wear_task_is_caught() {
+    for (name, wear) in SLIPS.into_iter().chain(WRONG_WEARS) {
+        let failure = run(Library { wear, ..RIGHT }, 50_000).expect_err(name);
+        println!("{name}: round {}", failure.round);
     }
 }
 
 #[test]
 fn a_failure_is_repeated_by_its_round_alone() {
-    let failure = run(takes_version_2, lay_out_on_bytes, 50_000).expect_err("a wrong library");
-    let library = Library { step: takes_version_2, lay_out: lay_out_on_bytes };
+    let library = Library { step: takes_version_2, ..RIGHT };
+    let failure = run(library, 50_000).expect_err("a wrong library");
     let again = one_round(library, 1, failure.round, &mut Tally::default());
     assert_eq!(again.expect_err("the same").to_string(), failure.to_string());
     assert!(failure.to_string().contains("answer: wanted code 1, kind 0, word 00000000"));

@@ -18,6 +18,8 @@ mod program;
 mod readings;
 mod sentences;
 mod sheets;
+mod slips;
 mod texts;
 mod timelines;
 mod walks;
+mod wear;

@@ -6,6 +6,11 @@
 //! output. Each is 2,486 bytes of area and 8 of the step.
 //! `bench calls`: the yardstick makes the steps of `bench cases`, and the number
 //! and the code of each are printed, for callgrind to count what it takes.
+//! `bench wear`: the cases in which the wear task has most to do, on standard
+//! output. Each is 2,486 bytes of area, the slot, the length of the set, and 16
+//! bytes for the set.
+//! `bench wear-calls`: the yardstick makes them, and the number of groups and the
+//! code of each are printed, likewise.
 
 use std::env;
 use std::hint::black_box;
@@ -14,9 +19,10 @@ use std::process::ExitCode;
 use std::time::{Duration, Instant};
 
 use linked::busy::BusySheet;
-use linked::cases::{self, Case};
+use linked::cases::{self, Case, WearCase, SUBJECT};
 use linked::library;
-use oracle::{step_in_place, step_on_bytes, Call};
+use oracle::machine::Transaction;
+use oracle::{step_in_place, step_on_bytes, wear_in_place, wear_on_bytes, Call};
 
 const SHEETS: u64 = 9;
 const TIMES: usize = 60;
@@ -31,7 +37,9 @@ fn main() -> ExitCode {
         Some("cases") => worst_cases().and_then(|cases| write(&cases)),
         Some("sheet") => sheet_cases().and_then(|cases| write(&cases)),
         Some("calls") => worst_cases().map(make_in_place),
-        Some(_) => Err("usage: bench [cases|sheet|calls]".to_string()),
+        Some("wear") => wear_cases().and_then(|cases| write_wear(&cases)),
+        Some("wear-calls") => wear_cases().map(wear_all_in_place),
+        Some(_) => Err("usage: bench [cases|sheet|calls|wear|wear-calls]".to_string()),
     };
     match result {
         Ok(()) => ExitCode::SUCCESS,
@@ -143,6 +151,35 @@ fn sheet_cases() -> Result<Vec<Case>, String> {
         cases.push(Case { area: before, call, code });
     }
     Ok(cases)
+}
+
+fn wear_cases() -> Result<Vec<WearCase>, String> {
+    let cases = cases::wear().ok_or("no cases")?;
+    for WearCase { area, set, number } in &cases {
+        let given = wear_on_bytes(&mut area.clone(), set, SUBJECT);
+        if given != *number {
+            return Err(format!("the set {set:?} was to get {number:#x} and gets {given:#x}"));
+        }
+    }
+    Ok(cases)
+}
+
+fn wear_all_in_place(cases: Vec<WearCase>) {
+    for WearCase { mut area, set, .. } in cases {
+        let number = wear_in_place(&mut area, &set, SUBJECT);
+        println!("{} {}", set.len() / 2, number >> 40 & 0xff);
+    }
+}
+
+fn write_wear(cases: &[WearCase]) -> Result<(), String> {
+    let mut out = io::stdout().lock();
+    for WearCase { area, set, .. } in cases {
+        let mut room = [0; Transaction::LOG_ROOM];
+        room[..set.len()].copy_from_slice(set);
+        let bytes = [area, &[SUBJECT, set.len() as u8][..], &room].concat();
+        out.write_all(&bytes).map_err(|error| error.to_string())?;
+    }
+    Ok(())
 }
 
 fn write(cases: &[Case]) -> Result<(), String> {

@@ -15,7 +15,7 @@ use linked::library::LIBRARY;
 use oracle::fuzz::{fuzz, one_round, Failure, Tally};
 
 const USAGE: &str = "usage: fuzz [calls=N] [seed=N] [round=N]";
-const CALLS: u64 = 200_000;
+const CALLS: u64 = 250_000;
 /// The status if the calls were answered alike and reached too little.
 const TOO_FEW: u8 = 3;
 const BETWEEN_SIGNS_OF_LIFE: Duration = Duration::from_secs(5);

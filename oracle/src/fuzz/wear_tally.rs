@@ -1,0 +1,98 @@
+//! What the calls of the wear task have reached.
+
+use std::collections::BTreeMap;
+
+use super::tally::Count;
+use crate::inplace::view::{u32_at, CellBytes, CELL_WORD};
+use crate::machine::Transaction;
+use crate::record::HEADER_LENGTH;
+use crate::wear::GROUPS_AT_MOST;
+
+/// The codes that there are, in the order in which they are tested.
+const CODES: [(u8, u64); 8] =
+    [(0, 2000), (1, 4000), (32, 2500), (3, 800), (4, 1500), (10, 4000), (33, 300), (34, 1000)];
+
+/// Counts of the operations that were answered alike.
+#[derive(Clone, Debug, Default)]
+pub struct WearTally {
+    codes: BTreeMap<u8, u64>,
+    /// Code 10 at each place of a set.
+    refused_reads: [u64; Transaction::LOG_ROOM],
+    /// Code 33 for each group.
+    negatives: [u64; GROUPS_AT_MOST],
+    negatives_of_unusable: u64,
+    /// Code 34 though a group is usable: it has the last count.
+    worn_out: u64,
+    picks: [u64; GROUPS_AT_MOST],
+    ties: u64,
+    unusable_with_fewer: u64,
+    commits: u64,
+}
+
+impl WearTally {
+    pub fn calls(&self) -> u64 {
+        self.codes.values().sum()
+    }
+
+    pub fn note(&mut self, before: &[u8], set: &[u8], number: u64) {
+        let (place, code) = ((number >> 48) as usize, (number >> 40) as u8);
+        *self.codes.entry(code).or_default() += 1;
+        match code {
+            0 => self.note_pick(&groups_of(before, set), number as u32 as usize),
+            10 => self.refused_reads[place] += 1,
+            33 => {
+                self.negatives[place / 2] += 1;
+                let (usable, _) = groups_of(before, set)[place / 2];
+                self.negatives_of_unusable += u64::from(!usable);
+            }
+            34 => {
+                let some_usable = groups_of(before, set).iter().any(|(usable, _)| *usable);
+                self.worn_out += u64::from(some_usable);
+            }
+            _ => {}
+        }
+    }
+
+    fn note_pick(&mut self, groups: &[(bool, u32)], picked: usize) {
+        self.picks[picked] += 1;
+        let (_, fewest) = groups[picked];
+        self.ties += u64::from(groups[picked + 1..].contains(&(true, fewest)));
+        let fewer = groups.iter().any(|(usable, erases)| !usable && *erases < fewest);
+        self.unusable_with_fewer += u64::from(fewer);
+    }
+
+    /// A transaction that levelled has committed.
+    pub fn note_commit(&mut self) {
+        self.commits += 1;
+    }
+
+    pub(super) fn counts(&self) -> Vec<Count> {
+        let mut counts: Vec<Count> = Vec::new();
+        for (code, least) in CODES {
+            let count = self.codes.get(&code).copied().unwrap_or(0);
+            counts.push((format!("wear code {code}"), count, least));
+        }
+        let rarest = |counts: &[u64]| counts.iter().copied().min().unwrap_or(0);
+        let named = [
+            ("wear code 10 at the place with fewest of them", rarest(&self.refused_reads), 20),
+            ("wear code 33 at the place with fewest of them", rarest(&self.negatives), 6),
+            ("wear code 33 for a group that is not usable", self.negatives_of_unusable, 80),
+            ("wear code 34 with a usable group at the last count", self.worn_out, 300),
+            ("picks of a group above 0", self.picks[1..].iter().sum(), 1000),
+            ("picks of the group with fewest of them", rarest(&self.picks), 20),
+            ("picks on a tie", self.ties, 400),
+            ("picks beside an unusable group with fewer erases", self.unusable_with_fewer, 250),
+            ("commits of tasks that levelled", self.commits, 200),
+        ];
+        counts.extend(named.map(|(name, count, least)| (name.to_string(), count, least)));
+        counts
+    }
+}
+
+/// Whether each group of a good set is usable, and its erases.
+fn groups_of(area: &[u8], set: &[u8]) -> Vec<(bool, u32)> {
+    let cells: &[CellBytes] = area[HEADER_LENGTH..].as_chunks().0;
+    let word = |cell: u8| u32_at(&cells[usize::from(cell)], CELL_WORD);
+    let pairs = set.as_chunks().0.iter();
+    pairs.map(|[truth, erases]| (word(*truth) == 1, word(*erases))).collect()
+}
