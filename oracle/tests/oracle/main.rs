@@ -21,3 +21,4 @@ mod sheets;
 mod texts;
 mod timelines;
 mod walks;
+mod wear_header;
