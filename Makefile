@@ -1,6 +1,6 @@
 # make test:    all there is, as the gate runs it. Its last line is 'N passed, 0 failed'.
-# make lib:     the static library for C, target/staticlib/libcrocktendril.a.
-# make example: builds and runs examples/c/two_tasks.c, and compares what it prints.
+# make lib:     the static libraries for C, target/staticlib/libcrocktendril.a and libwear.a beside it.
+# make example: builds and runs examples/c/two_tasks.c and wear.c, and compares what they print.
 # make guide:   builds and runs the program in docs/GUIDE.md, and compares what it prints.
 # make guide-sheets: runs the step sheets in docs/GUIDE.md, and compares what they print.
 # make fuzz:    random calls at the C functions against the second program (CALLS, SEED), or one ROUND of a seed again.
@@ -17,15 +17,15 @@ SEED ?= 1
 BEGAN := $(shell date +%s)
 LIBRARY := target/staticlib/libcrocktendril.a
 WEAR := target/staticlib/libwear.a
-# The crates that the library is made of, and their files. Folders count as files: one that lost a file is newer.
-LIBRARY_CRATES := crocktendril $(shell sed -n 's/^crocktendril: //p' crates.txt)
-LIBRARY_SOURCES := crates.txt $(shell find $(wildcard $(foreach part,src specs proofs,$(LIBRARY_CRATES:%=crates/%/$(part)))))
+# The crates that the library of a crate is made of, and their files. Folders count as files: one that lost a file is newer.
+crates = $(1) $(shell sed -n 's/^$(1): //p' crates.txt)
+sources = $(shell find crates.txt $(wildcard $(foreach part,src specs proofs,$(patsubst %,crates/%/$(part),$(call crates,$(1))))))
 STRICT := -pedantic -Wall -Wextra -Werror -O2 -Iinclude
 LINKED := oracle/linked/target/release
 PROGRAM := target/bin/run
 SECOND := oracle/target/release
 # the crates that ask nothing of a caller
-BOUNDARIES := value call line apart sheet run crocktendril
+BOUNDARIES := value call line apart sheet run crocktendril wear
 # the blocks of the guide that are marked so, one behind the other
 blocks = awk '/^```$(1)$$/ { on = 1; next } /^```$$/ { on = 0 } on' docs/GUIDE.md
 
@@ -37,40 +37,51 @@ test:
 	cd oracle && cargo fmt --check
 	@echo "== nothing is asked of a caller at the boundaries"
 	! grep -rnw requires $(foreach name,$(BOUNDARIES),$(wildcard crates/$(name)/src crates/$(name)/specs))
-	@echo "== the header in C89 and in C++"
-	gcc -std=c89 -x c -fsyntax-only $(STRICT) examples/c/header.cpp
-	g++ -std=c++98 -fsyntax-only $(STRICT) examples/c/header.cpp
+	@echo "== the headers in C89 and in C++"
+	gcc -std=c89 -x c -fsyntax-only $(STRICT) examples/c/header.cpp examples/c/wear_header.cpp
+	g++ -std=c++98 -fsyntax-only $(STRICT) examples/c/header.cpp examples/c/wear_header.cpp
 	@echo "== the must-fail edits: their texts"
 	python3 tools/edit_logs.py texts
 	@echo "== the second program: its tests"
 	cd oracle && cargo test --release --offline --quiet
-	@echo "== proofs, must-fail edits, the library and what is linked with it (some ten minutes)"
+	@echo "== proofs, must-fail edits, the libraries and what is linked with them (some ten minutes)"
 	@BEGAN=$(BEGAN) tools/gate
 
 lib:
 	rt staticlib crocktendril
-	@echo "the library is $(LIBRARY)"
+	rt staticlib wear
+	@echo "the libraries are $(LIBRARY) and $(WEAR)"
 
-# where it is asked for, and is missing or older than what it is made of
-$(LIBRARY): $(LIBRARY_SOURCES)
-	$(MAKE) --no-print-directory lib
+# where one is asked for, and is missing or older than what it is made of
+$(LIBRARY): $(call sources,crocktendril)
+	rt staticlib crocktendril
+
+$(WEAR): $(call sources,wear)
+	rt staticlib wear
 
 program:
 	@echo "== the program that runs step sheets: proofs and build (minutes from nothing, seconds if nothing has changed)"
 	rt check run
 
-example: $(LIBRARY)
+# The libraries link in either order.
+example: $(LIBRARY) $(WEAR)
 	@mkdir -p target/c
 	gcc -std=c89 $(STRICT) examples/c/two_tasks.c $(LIBRARY) -o target/c/two_tasks
 	target/c/two_tasks | tee target/c/two_tasks.out
 	diff target/c/two_tasks.out examples/c/two_tasks.expected
-	@echo "the example printed what it should"
+	gcc -std=c89 $(STRICT) examples/c/wear.c $(LIBRARY) $(WEAR) -o target/c/wear
+	target/c/wear | tee target/c/wear.out
+	diff target/c/wear.out examples/c/wear.expected
+	gcc -std=c89 $(STRICT) examples/c/wear.c $(WEAR) $(LIBRARY) -o target/c/wear
+	target/c/wear > target/c/wear.out
+	diff target/c/wear.out examples/c/wear.expected
+	@echo "the examples printed what they should"
 
 # The C blocks of the guide are one program, and what it prints stands under them.
-guide: $(LIBRARY)
+guide: $(LIBRARY) $(WEAR)
 	@mkdir -p target/c
 	$(call blocks,c) > target/c/guide.c
-	gcc -std=c89 $(STRICT) target/c/guide.c $(LIBRARY) -o target/c/guide
+	gcc -std=c89 $(STRICT) target/c/guide.c $(LIBRARY) $(WEAR) -o target/c/guide
 	target/c/guide > target/c/guide.out
 	$(call blocks,text) | diff - target/c/guide.out
 	python3 docs/img/phases.py | diff - docs/img/phases.svg
@@ -94,10 +105,12 @@ second:
 linked:
 	cd oracle/linked && cargo build --release --offline --quiet
 
-# What the gate runs once all is proved: the comparison on sheets, and what is linked with the library, which needs
-# nothing of its surroundings but memcpy and memset.
+# What the gate runs once all is proved: the comparison on sheets, and what is linked with the libraries. They need
+# nothing of their surroundings but memcpy and memset, and libwear.a has one function that others see.
 linked-test: lib linked sheets-test guide-sheets
 	test "$$(nm -u $(LIBRARY) | awk '$$1 == "U" { print $$2 }' | sort | xargs)" = "memcpy memset"
+	test -z "$$(nm -u $(WEAR) | awk '$$1 == "U" && $$2 != "memcpy" && $$2 != "memset" { print $$2 }')"
+	test "$$(nm -g --defined-only $(WEAR) | awk 'NF == 3 { print $$3 }' | xargs)" = "crocktendril_wear"
 	$(MAKE) --no-print-directory example guide
 	cd oracle/linked && cargo fmt --check
 	$(LINKED)/fuzz seed=$(SEED)

@@ -23,3 +23,4 @@ mod texts;
 mod timelines;
 mod walks;
 mod wear;
+mod wear_header;

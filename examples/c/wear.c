@@ -1,0 +1,224 @@
+/*
+ * Two tasks of a small controller that level the wear of one module.
+ *
+ * The module is new and has three block groups, of which one is not usable. A
+ * task that needs a group picks the least worn one, which counts its erase, and
+ * commits. Here both read the same counts and so pick the same group. Only one
+ * of them commits: the other learns of it, drops its work, begins again, and
+ * picks the group that is then the least worn. So each erase is counted.
+ *
+ * The tasks take turns. A turn is one call, as between two ticks of a
+ * scheduler. What is picked, committed, refused or out of date is printed.
+ */
+
+#include <stdio.h>
+
+#include "crocktendril_wear.h"
+
+/* The cells: first whether each group is usable, then how often it was erased. */
+#define GROUPS 3
+#define USABLE(group) (group)
+#define ERASES(group) (GROUPS + (group))
+#define CELLS (2 * GROUPS)
+
+/* What a task does in its next turn: a step, or one of these. */
+#define AT_REST 0
+#define WEAR 255
+
+struct task {
+    const char *name;
+    uint8_t slot;
+    uint8_t next;
+    unsigned wanted; /* groups that it still needs */
+    unsigned group;  /* the last one that it picked */
+};
+
+/* The one area. On a controller it may be in battery-backed memory. */
+static uint8_t area[CROCKTENDRIL_AREA_LENGTH(CELLS)];
+
+static const uint8_t descriptions[CELLS * CROCKTENDRIL_DESCRIPTION_LENGTH] = {
+    CROCKTENDRIL_KIND_TRUTH, 0, 0, 0, 1, /* group 0 is usable */
+    CROCKTENDRIL_KIND_TRUTH, 0, 0, 0, 0, /* group 1 is not */
+    CROCKTENDRIL_KIND_TRUTH, 0, 0, 0, 1, /* group 2 is usable */
+    CROCKTENDRIL_KIND_WHOLE, 0, 0, 0, 0, /* the erases of group 0 */
+    CROCKTENDRIL_KIND_WHOLE, 0, 0, 0, 0, /* of group 1 */
+    CROCKTENDRIL_KIND_WHOLE, 0, 0, 0, 0  /* of group 2 */
+};
+
+/* The wear set: of each group the truth cell, then the count. */
+static const uint8_t set[CROCKTENDRIL_WEAR_SET_LENGTH(GROUPS)] = {
+    USABLE(0), ERASES(0), USABLE(1), ERASES(1), USABLE(2), ERASES(2)};
+
+static const char *const code_names[] = {
+    "done",          "not well formed", "no such step", "no such slot",    "not allowed",
+    "no such cell",  "illegal value",   "other kind",   "not in the log",  "log full",
+    "not readable",  "held by another", "last stamp",   "aborted"};
+
+/* Commits of all tasks. */
+static unsigned commits;
+
+static const char *code_name(unsigned code)
+{
+    switch (code) {
+    case CROCKTENDRIL_CODE_BAD_SET:
+        return "bad set";
+    case CROCKTENDRIL_CODE_NEGATIVE_COUNT:
+        return "negative count";
+    case CROCKTENDRIL_CODE_NONE_LEFT:
+        return "none left";
+    default:
+        return code_names[code];
+    }
+}
+
+/* Makes one step and answers its reply. Where tasks interrupt each other, the
+   call is masked. */
+static uint64_t make(const struct task *task, uint8_t step, uint8_t cell)
+{
+    return crocktendril_step(area, sizeof area, step, task->slot, cell, CROCKTENDRIL_KIND_NONE, 0);
+}
+
+/* Makes a step that takes its slot alone and answers its code, which is printed
+   if the step is not done. */
+static unsigned take(const struct task *task, uint8_t step, const char *name)
+{
+    unsigned code = CROCKTENDRIL_REPLY_CODE(make(task, step, 0));
+
+    if (code != CROCKTENDRIL_CODE_DONE)
+        printf("%-7s  %-6s  %s\n", task->name, name, code_name(code));
+    return code;
+}
+
+static void print_answer(const struct task *task, uint64_t answer)
+{
+    unsigned code = CROCKTENDRIL_WEAR_CODE(answer), place = CROCKTENDRIL_WEAR_PLACE(answer);
+
+    printf("%-7s  wear    ", task->name);
+    switch (code) {
+    case CROCKTENDRIL_CODE_DONE:
+        printf("picked group %lu\n", (unsigned long)CROCKTENDRIL_WEAR_WORD(answer));
+        break;
+    case CROCKTENDRIL_CODE_NOT_READABLE:
+    case CROCKTENDRIL_CODE_NEGATIVE_COUNT:
+        printf("%s at place %u, the %s of group %u\n", code_name(code), place,
+               place % 2 == 0 ? "truth cell" : "erases", place / 2);
+        break;
+    default:
+        printf("%s\n", code_name(code));
+    }
+}
+
+/* Picks a group. A refusal leaves reads in the log, so the task gives up before
+   it tries again; and only a cell that was not readable may be so later. */
+static uint8_t wear(struct task *task)
+{
+    uint64_t answer = crocktendril_wear(area, sizeof area, set, sizeof set, task->slot);
+
+    print_answer(task, answer);
+    if (CROCKTENDRIL_WEAR_CODE(answer) == CROCKTENDRIL_CODE_DONE) {
+        task->group = (unsigned)CROCKTENDRIL_WEAR_WORD(answer);
+        return CROCKTENDRIL_STEP_CLOSE;
+    }
+    if (CROCKTENDRIL_WEAR_CODE(answer) != CROCKTENDRIL_CODE_NOT_READABLE)
+        task->wanted = 0;
+    return CROCKTENDRIL_STEP_GIVE_UP;
+}
+
+static uint8_t enter(const struct task *task)
+{
+    uint64_t reply = make(task, CROCKTENDRIL_STEP_ENTER, 0);
+
+    /* It answers 0 if something that was read is out of date. */
+    if (CROCKTENDRIL_REPLY_WORD(reply) == 0)
+        printf("%-7s  enter   a cell that was read is out of date\n", task->name);
+    return CROCKTENDRIL_STEP_FINISH;
+}
+
+/* Commits. With a mark the transaction is aborted instead, and begins again. */
+static uint8_t finish(struct task *task)
+{
+    if (take(task, CROCKTENDRIL_STEP_FINISH, "finish") != CROCKTENDRIL_CODE_DONE)
+        return CROCKTENDRIL_STEP_BEGIN;
+    printf("%-7s  finish  committed, group %u\n", task->name, task->group);
+    task->wanted--;
+    commits++;
+    return CROCKTENDRIL_STEP_PUBLISH;
+}
+
+/* Makes the call that the task has next, and answers the one after it. */
+static uint8_t turn(struct task *task)
+{
+    switch (task->next) {
+    case CROCKTENDRIL_STEP_BEGIN:
+        take(task, CROCKTENDRIL_STEP_BEGIN, "begin");
+        return WEAR;
+    case WEAR:
+        return wear(task);
+    case CROCKTENDRIL_STEP_CLOSE:
+        take(task, CROCKTENDRIL_STEP_CLOSE, "close");
+        return CROCKTENDRIL_STEP_LOCK;
+    case CROCKTENDRIL_STEP_LOCK:
+        /* One cell is written. Held by another: once more at the next turn. */
+        return take(task, CROCKTENDRIL_STEP_LOCK, "lock") == CROCKTENDRIL_CODE_DONE
+                   ? CROCKTENDRIL_STEP_ENTER
+                   : CROCKTENDRIL_STEP_LOCK;
+    case CROCKTENDRIL_STEP_ENTER:
+        return enter(task);
+    case CROCKTENDRIL_STEP_FINISH:
+        return finish(task);
+    case CROCKTENDRIL_STEP_PUBLISH:
+        take(task, CROCKTENDRIL_STEP_PUBLISH, "publish");
+        break;
+    default:
+        take(task, CROCKTENDRIL_STEP_GIVE_UP, "give up");
+    }
+    /* It is idle now. */
+    return task->wanted > 0 ? CROCKTENDRIL_STEP_BEGIN : AT_REST;
+}
+
+/* Reads a cell, where it is known to be done. Answers its word. */
+static unsigned long read_word(const struct task *task, uint8_t cell)
+{
+    return CROCKTENDRIL_REPLY_WORD(make(task, CROCKTENDRIL_STEP_READ, cell));
+}
+
+/* Reads all cells in one transaction, so that they are of one moment. Answers
+   the sum of the counts. */
+static unsigned long monitor(void)
+{
+    struct task task = {"monitor", 3, AT_REST, 0, 0};
+    unsigned long erases, sum = 0;
+    unsigned group;
+
+    take(&task, CROCKTENDRIL_STEP_BEGIN, "begin");
+    for (group = 0; group < GROUPS; group++) {
+        erases = read_word(&task, (uint8_t)ERASES(group));
+        printf("group %u: %s, erases %lu\n", group,
+               read_word(&task, (uint8_t)USABLE(group)) ? "usable" : "not usable", erases);
+        sum += erases;
+    }
+    take(&task, CROCKTENDRIL_STEP_GIVE_UP, "give up");
+    return sum;
+}
+
+int main(void)
+{
+    struct task logger = {"logger", 1, CROCKTENDRIL_STEP_BEGIN, 2, 0};
+    struct task recipes = {"recipes", 2, CROCKTENDRIL_STEP_BEGIN, 1, 0};
+    unsigned long erases;
+
+    /* The answer of a lay-out is compared as it stands. */
+    if (crocktendril_lay_out(area, sizeof area, descriptions, sizeof descriptions) !=
+        CROCKTENDRIL_LAY_OUT_DONE)
+        return 1;
+    while (logger.next != AT_REST || recipes.next != AT_REST) {
+        if (logger.next != AT_REST)
+            logger.next = turn(&logger);
+        if (recipes.next != AT_REST)
+            recipes.next = turn(&recipes);
+    }
+    erases = monitor();
+    printf("%u commits, %lu erases: %s\n", commits, erases,
+           erases == commits ? "no count was lost" : "counts were lost");
+    return erases == commits ? 0 : 1;
+}
