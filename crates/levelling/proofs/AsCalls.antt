@@ -30,8 +30,9 @@ use Rattle.history.specs.Keeps.{bytesAfter}
 use Rattle.history.proofs.Keeps.{keeps}
 use Rattle.history.proofs.Keeps.Lists.{cond-elim}
 use Rattle.pick.specs.Pick.{negativeAt, picked}
-use Rattle.wear.specs.WearSet.{groupCount}
-use Rattle.wear.specs.Wear.{readOf, Reading, going, stopped, readAt, readFirst, Levelled, writing, judging, levelling, wear}
+use Rattle.wearset.specs.WearSet.{groupCount}
+use Rattle.level.specs.Level.{readOf, Reading, going, stopped, readAt, readFirst, Levelled, writing, judging, levelling}
+use Rattle.wear.specs.Wear.{wear}
 use Rattle.wear.specs.OnBytes.{LevelledArea, wearOnBytes}
 use Rattle.levelling.specs.AsCalls.{writePicked, writeIfSound, callsMade, wearCalls, AsCalls}
 use Rattle.levelling.proofs.Cases.{wear-case}

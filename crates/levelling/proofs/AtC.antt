@@ -20,8 +20,9 @@ use Rattle.rules.specs.AreaRight.{wellFormed}
 use Rattle.rules.proofs.RoundTrip.{pack-state, state-right}
 use Rattle.pick.specs.Pick.{negativeAt, picked}
 use Rattle.pick.proofs.PicksRight.{picks-right}
-use Rattle.wear.specs.WearSet.{groupCount}
-use Rattle.wear.specs.Wear.{Reading, going, stopped, readFirst, Levelled, refusing, writing, judging, levelling, wear, levelledNumber}
+use Rattle.wearset.specs.WearSet.{groupCount}
+use Rattle.level.specs.Level.{Reading, going, stopped, readFirst, Levelled, refusing, writing, judging, levelling, levelledNumber}
+use Rattle.wear.specs.Wear.{wear}
 use Rattle.wear.specs.OnBytes.{wearOnBytes}
 use Rattle.wear.specs.Contract.{Worn}
 use Rattle.levelling.specs.AsCalls.{admitted}

@@ -8,8 +8,10 @@ use lib.ListN.{length}
 use Rattle.slot.specs.Logic.{_and_}
 use Rattle.rules.specs.Model.{Model}
 use Rattle.rules.specs.State.{State, slotAt}
-use Rattle.wear.specs.WearSet.{setRight}
-use Rattle.wear.specs.Wear.{Levelled, refusing, levelling, readFirst, openAndEmpty, wear}
+use Rattle.wearset.specs.WearSet.{setRight}
+use Rattle.wearset.specs.OpenEmpty.{openAndEmpty}
+use Rattle.level.specs.Level.{Levelled, refusing, levelling, readFirst}
+use Rattle.wear.specs.Wear.{wear}
 use Rattle.levelling.specs.AsCalls.{admitted}
 
 module _ (M : Model) (S : State) (set : List ℕ) (slot : ℕ) where

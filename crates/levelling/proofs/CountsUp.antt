@@ -7,7 +7,8 @@ use Prim.Native.Nat.{ℕ, zero, suc, pred, _<_, _≤_}
 use native.Mathlib.Nat.{not-suc-le-zero, le-of-suc-le-suc}
 use native.Mathlib.Omega.{arith}
 use lib.Dec.{eqb}
-use lib.ListN.{length, getD, length-map}
+use lib.ListN.{length, getD, length-map, length-take}
+use lib.Seq.{getD-take}
 use lib.Signed.{_≤ℤ_, ≤ℤ-refl}
 use borrow.Author.Tests.{eqb-true, eq-eqb, ne-eqb, not-true}
 use Rattle.slot.specs.declared.ReadEntry.{ReadEntry}
@@ -24,7 +25,7 @@ use Rattle.history.proofs.Replay.{quiet, writer-leaves}
 use Rattle.history.proofs.Histories.{histories}
 use Rattle.pick.specs.Groups.{erasesPlace, erases, lastCount}
 use Rattle.pick.proofs.PicksRight.{picks-right}
-use Rattle.wear.specs.WearSet.{groupCount}
+use Rattle.wearset.specs.WearSet.{groupCount}
 use Rattle.levelling.specs.CountsUp.{wordsRead, cellsRead, LevelsWith, signed, RaisesOne, OnlyLevelled, CountsUp, CountsUpFromRest}
 use Rattle.levelling.proofs.SignedWords.{signed-next, signed-rises, ≤ℤ-trans}
 
@@ -77,10 +78,14 @@ module _ (S : State) (events : List Event) where
   raises x positive log had set g levels =
       let c : ℕ = getD set (erasesPlace g) 0 in
       let least = picks-right .pick (wordsRead (x .reads)) (groupCount set) g (levels .pick) in
-      let count : length set ≡ length (x .reads) = ap length (sym (levels .cells)) ∙ length-map (x .reads) _ in
+      let cut = length-take (length set) (cellsRead (x .reads)) in
+      let same = ap length (levels .cells) in
+      let all = length-map (x .reads) (λ (e : ReadEntry). e .cell) in
+      let inside : erasesPlace g < length set = omega (arith, least .inside) in
       let word : erases (wordsRead (x .reads)) g ≡ replay S events (pred (x .stamp)) c =
-      read-word (replay S events (pred (x .stamp))) (x .reads) had (erasesPlace g) (omega (arith, least .inside))
-      ∙ ap (λ (cells : List ℕ). replay S events (pred (x .stamp)) (getD cells (erasesPlace g) 0)) (levels .cells) in
+      read-word (replay S events (pred (x .stamp))) (x .reads) had (erasesPlace g) (omega arith)
+      ∙ ap (replay S events (pred (x .stamp)))
+      (sym (getD-take (length set) (cellsRead (x .reads)) (erasesPlace g) 0 inside) ∙ ap (λ (cells : List ℕ). getD cells (erasesPlace g) 0) (levels .cells)) in
       let entry : WriteEntry = record { cell = c; word = suc (erases (wordsRead (x .reads)) g) } in
       let raised : replay S events (x .stamp) c ≡ suc (replay S events (pred (x .stamp)) c) =
       writer-leaves (logAt (commits events)) _ (x .stamp) c entry positive

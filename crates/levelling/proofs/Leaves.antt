@@ -27,8 +27,9 @@ use Rattle.rules.specs.Steps.{answer}
 use Rattle.pick.specs.Groups.{erasesPlace, erases}
 use Rattle.pick.specs.Pick.{negativeAt, picked}
 use Rattle.pick.proofs.PicksRight.{picks-right}
-use Rattle.wear.specs.WearSet.{groupCount}
-use Rattle.wear.specs.Wear.{Reading, going, stopped, readAt, readFirst, Levelled, writing, judging, levelling, wear}
+use Rattle.wearset.specs.WearSet.{groupCount}
+use Rattle.level.specs.Level.{Reading, going, stopped, readAt, readFirst, Levelled, writing, judging, levelling}
+use Rattle.wear.specs.Wear.{wear}
 use Rattle.levelling.specs.AsCalls.{admitted}
 use Rattle.levelling.specs.Leaves.{wordsOf, withLogs, inTheWay, Leaves}
 use Rattle.levelling.proofs.Cases.{begins}

@@ -30,8 +30,9 @@ use Rattle.rules.specs.Steps.{answer, readShared, read, write}
 use Rattle.rules.specs.Step.{stepOf, step}
 use Rattle.history.proofs.Right.{right-of}
 use Rattle.history.proofs.Keeps.Lists.{any-none}
-use Rattle.wear.specs.WearSet.{kindDue, setLengthRight, cellFits, placeRight, setRight}
-use Rattle.wear.specs.Wear.{readOf, writeOf, openAndEmpty}
+use Rattle.wearset.specs.WearSet.{kindDue, setLengthRight, cellFits, placeRight, setRight}
+use Rattle.wearset.specs.OpenEmpty.{openAndEmpty}
+use Rattle.level.specs.Level.{readOf, writeOf}
 use Rattle.levelling.specs.AsCalls.{admitted}
 use Rattle.levelling.specs.Leaves.{entryOf, withLogs}
 

@@ -9,8 +9,9 @@ use Rattle.rules.specs.State.{State}
 use Rattle.pick.specs.Pick.{picked}
 use Rattle.pick.specs.PicksRight.{NoneLeft, LeastWorn}
 use Rattle.pick.proofs.PicksRight.{picks-right}
-use Rattle.wear.specs.WearSet.{groupCount}
-use Rattle.wear.specs.Wear.{Levelled, writing, judging, levelling, wear}
+use Rattle.wearset.specs.WearSet.{groupCount}
+use Rattle.level.specs.Level.{Levelled, writing, judging, levelling}
+use Rattle.wear.specs.Wear.{wear}
 use Rattle.levelling.specs.Refuses.{SoundRead, RefusesExactly}
 use Rattle.levelling.proofs.Cases.{begins}
 

@@ -16,8 +16,10 @@ use Rattle.rules.specs.Layout.{stateOf}
 use Rattle.history.specs.Keeps.{bytesAfter}
 use Rattle.pick.specs.Groups.{erasesPlace, erases}
 use Rattle.pick.specs.Pick.{negativeAt, picked}
-use Rattle.wear.specs.WearSet.{groupCount, setRight}
-use Rattle.wear.specs.Wear.{readOf, writeOf, Reading, going, stopped, readFirst, openAndEmpty, wear}
+use Rattle.wearset.specs.WearSet.{groupCount, setRight}
+use Rattle.wearset.specs.OpenEmpty.{openAndEmpty}
+use Rattle.level.specs.Level.{readOf, writeOf, Reading, going, stopped, readFirst}
+use Rattle.wear.specs.Wear.{wear}
 use Rattle.wear.specs.OnBytes.{wearOnBytes}
 
 -- the write, if a group is picked; none, if a count is negative

@@ -6,7 +6,7 @@ use mathlib.Core.Path.{_≡_}
 use Prim.Native.Nat.{ℕ, suc, pred, _<_, _≤_}
 use lib.IntN.{ℤ, sucℤ}
 use lib.Signed.{_≤ℤ_}
-use lib.ListN.{getD}
+use lib.ListN.{length, getD, take}
 use mir.Syntax.{w32}
 use mir.Val.{toZ}
 use Rattle.wire.specs.Field.{Bytes}
@@ -25,7 +25,7 @@ use Rattle.history.specs.AreaHistory.{areaHistory}
 use Rattle.history.specs.Keeps.{bytesAfter}
 use Rattle.pick.specs.Groups.{erasesPlace, erases, lastCount}
 use Rattle.pick.specs.Pick.{negativeAt, picked}
-use Rattle.wear.specs.WearSet.{groupCount}
+use Rattle.wearset.specs.WearSet.{groupCount}
 
 -- the words of a read log, and its cells
 abbrev pub wordsRead : List ReadEntry → List ℕ
@@ -34,10 +34,11 @@ wordsRead reads = map (λ (e : ReadEntry). e .word) reads
 abbrev pub cellsRead : List ReadEntry → List ℕ
 cellsRead reads = map (λ (e : ReadEntry). e .cell) reads
 
--- Two logs *level* a set, with group g: the reads are the operation's (cells and words, marks aside), and the one write is what the pick rule gives for those words.
+-- Two logs *level* a set, with group g: the read log begins with the operation's reads (cells and words, marks aside; other cells may have been read after them), and the one
+-- write is what the pick rule gives for those words.
 -- Nothing else is asked: who made the logs, and how, is left open. So the operation levels, and so does a reload with the right update.
 pub record LevelsWith (set : List ℕ) (g : ℕ) (reads : List ReadEntry) (writes : List WriteEntry) : Type 0 where
-  pub cells : cellsRead reads ≡ set
+  pub cells : take (length set) (cellsRead reads) ≡ set
   pub sound : negativeAt (wordsRead reads) (groupCount set) ≡ none
   pub pick : picked (wordsRead reads) (groupCount set) ≡ some g
   pub write : writes ≡ (record { cell = getD set (erasesPlace g) 0; word = suc (erases (wordsRead reads) g) } ∷ [])

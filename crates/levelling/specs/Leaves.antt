@@ -17,8 +17,9 @@ use Rattle.rules.specs.StateRight.{stateRight}
 use Rattle.rules.specs.Cells.{heldByOther, newer}
 use Rattle.pick.specs.Groups.{erasesPlace, erases}
 use Rattle.pick.specs.Pick.{negativeAt, picked}
-use Rattle.wear.specs.WearSet.{groupCount}
-use Rattle.wear.specs.Wear.{going, stopped, readFirst, wear}
+use Rattle.wearset.specs.WearSet.{groupCount}
+use Rattle.level.specs.Level.{going, stopped, readFirst}
+use Rattle.wear.specs.Wear.{wear}
 use Rattle.levelling.specs.AsCalls.{admitted}
 
 -- the read log's entry of a cell that is read, and the words of cells

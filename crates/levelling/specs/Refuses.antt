@@ -8,8 +8,9 @@ use Rattle.rules.specs.Model.{Model}
 use Rattle.rules.specs.State.{State}
 use Rattle.pick.specs.Groups.{erases, negative}
 use Rattle.pick.specs.PicksRight.{NoneLeft, LeastWorn}
-use Rattle.wear.specs.WearSet.{groupCount}
-use Rattle.wear.specs.Wear.{going, readFirst, wear}
+use Rattle.wearset.specs.WearSet.{groupCount}
+use Rattle.level.specs.Level.{going, readFirst}
+use Rattle.wear.specs.Wear.{wear}
 use Rattle.levelling.specs.AsCalls.{admitted}
 
 -- all cells of the set are read, with these words and this state after them, and no count is negative

@@ -13,11 +13,13 @@ use Rattle.rules.specs.State.{slotAt}
 use Rattle.rules.specs.AreaRight.{wellFormed}
 use Rattle.area.specs.Good.{Good, stateIn}
 use Rattle.area.proofs.Good.{good-kept}
-use Rattle.wear.specs.WearSet.{setRight}
-use Rattle.wear.specs.Wear.{readFirst, levelling, openAndEmpty, wear, levelledNumber}
+use Rattle.wearset.specs.WearSet.{setRight}
+use Rattle.wearset.specs.OpenEmpty.{openAndEmpty}
+use Rattle.level.specs.Level.{readFirst, levelling, levelledNumber}
+use Rattle.wear.specs.Wear.{wear}
 use Rattle.wear.specs.OnBytes.{wearOnBytes}
 use Rattle.wear.specs.Contract.{Worn}
-use Rattle.wear.specs.Reached.{Comes}
+use Rattle.level.specs.Reached.{Comes}
 
 module _ (l set : List ℕ) (slot : ℕ) where
   -- 1

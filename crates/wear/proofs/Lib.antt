@@ -1,7 +1,1 @@
-pub mod CoreStep
-pub mod Reading
-pub mod GroupReads
-pub mod Judging
-pub mod Levels
-pub mod Before
 pub mod Boundary

@@ -1,5 +1,3 @@
-pub mod WearSet
 pub mod Wear
 pub mod OnBytes
 pub mod Contract
-pub mod Reached

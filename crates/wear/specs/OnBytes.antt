@@ -5,7 +5,8 @@ use Prim.Native.Nat.{ℕ}
 use Rattle.rules.specs.Model.{Model}
 use Rattle.rules.specs.Layout.{pack, stateOf}
 use Rattle.rules.specs.AreaRight.{wellFormed}
-use Rattle.wear.specs.Wear.{Levelled, refusing, wear, levelledNumber}
+use Rattle.level.specs.Level.{Levelled, refusing, levelledNumber}
+use Rattle.wear.specs.Wear.{wear}
 
 -- an answer, and the area after it
 pub record LevelledArea : Type 0 where

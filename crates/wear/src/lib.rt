@@ -1,19 +1,10 @@
 // The wear operation for C: one check of the area, then steps of the core in place. Nothing is asked of the caller but that the slices are what they say.
 ghost use Rattle.wear.specs.Contract.{Worn};
-use call::Reply;
-
-mod operation;
-mod sets;
-
 // The number of slots.
 const SLOTS: u8 = area::SLOTS as u8;
 
-// The weights of place, code and kind in the answer.
-const PLACE: u64 = 281474976710656;
-
-const CODE: u64 = 1099511627776;
-
-const KIND: u64 = 4294967296;
+// The weight of the code in the answer.
+const CODE: u64 = level::CODE;
 
 // Levels the wear set: reads its cells for the open transaction of the slot, picks a group and writes its count plus one. Answers
 // place × 2^48 + code × 2^40 + kind × 2^32 + word.
@@ -24,14 +15,14 @@ pub extern "C" fn crocktendril_wear(s: &mut [u8], set: &[u8], slot: u8) -> u64
     if !wellformed::well_formed(s) {
         return CODE;
     }
-    if !sets::set_right(s, set) {
+    if !wearset::set_right(s, set) {
         return 32 * CODE;
     }
     if slot == 0 || SLOTS < slot {
         return 3 * CODE;
     }
-    if !sets::open_and_empty(s, slot - 1) {
+    if !wearset::open_and_empty(s, slot - 1) {
         return 4 * CODE;
     }
-    operation::level(s, slot, set)
+    level::level(s, slot, set)
 }

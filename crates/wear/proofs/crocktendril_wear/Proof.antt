@@ -6,8 +6,8 @@ use borrow.Author.Tests.{ltb-true, ltb-false}
 use Rattle.area.specs.Good.{Good, stateIn}
 use Rattle.area.proofs.Good.{good-of}
 use Rattle.logcheck.proofs.Chains.{passes, fails}
-use Rattle.wear.specs.WearSet.{setRight}
-use Rattle.wear.proofs.Before.{set-length}
+use Rattle.wearset.specs.WearSet.{setRight}
+use Rattle.wearset.proofs.Before.{set-length}
 use Rattle.wear.proofs.Boundary.{ill-formed, bad-set, slot-zero, slot-high, slot-busy, levels}
 use borrow.Author.Needs.{needs}
 use Rattle.wear.proofs.crocktendril_wear.Statement.{statement}
