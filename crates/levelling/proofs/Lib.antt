@@ -9,3 +9,4 @@ pub mod StampsRise
 pub mod NeverFalls
 pub mod AtC
 pub mod Mix
+pub mod Levels

@@ -2,4 +2,5 @@ pub mod AsCalls
 pub mod Leaves
 pub mod Refuses
 pub mod CountsUp
+pub mod Levels
 pub mod AtC
