@@ -1,18 +1,21 @@
--- It refuses exactly if no group is left to pick: with all cells read and no count negative it comes to what the pick rule says of the words.
+-- It refuses exactly if no group is left to pick: with all cells read and no count negative it comes to what the pick rule says of the words. With a negative count
+-- it gives 33, and only then.
+use mathlib.Core.Bool.{true, false≢true}
 use mathlib.Core.List.{List}
 use mathlib.Core.Option.{Option, none, some}
 use mathlib.Core.Path.{_≡_, refl, _∙_, ap, subst, sym}
-use Prim.Native.Nat.{ℕ}
+use Prim.Native.Nat.{ℕ, _<_}
 use native.Mathlib.Omega.{arith}
 use Rattle.rules.specs.Model.{Model}
 use Rattle.rules.specs.State.{State}
-use Rattle.pick.specs.Pick.{picked}
+use Rattle.pick.specs.Groups.{erasesPlace, erases, negative}
+use Rattle.pick.specs.Pick.{negativeAt, picked}
 use Rattle.pick.specs.PicksRight.{NoneLeft, LeastWorn}
 use Rattle.pick.proofs.PicksRight.{picks-right}
 use Rattle.wearset.specs.WearSet.{groupCount}
 use Rattle.level.specs.Level.{Levelled, writing, judging, levelling}
 use Rattle.wear.specs.Wear.{wear}
-use Rattle.levelling.specs.Refuses.{SoundRead, RefusesExactly}
+use Rattle.levelling.specs.Refuses.{SoundRead, RefusesExactly, AllRead, FirstNegative, NegativeExactly}
 use Rattle.levelling.proofs.Cases.{begins}
 
 module _ (M : Model) (S : State) (set : List ℕ) (slot : ℕ) (words : List ℕ) (T : State) where
@@ -46,4 +49,40 @@ refuses-exactly M =
           ap (λ (w : Levelled). w .code) (comes-to M S set slot words T p ∙ ap (writing M T slot set words) (picks-right .no-pick words (groupCount set) left));
       exactly = λ S set slot words T p. answers M S set slot words T p .0;
       picks = λ S set slot words T p. answers M S set slot words T p .1;
+    }
+
+module _ (M : Model) (S : State) (set : List ℕ) (slot : ℕ) (words : List ℕ) (T : State) where
+  -- what it comes to is settled by the signs
+  judged-as : AllRead M S set slot words T → wear M S set slot ≡ judging M T slot set words (negativeAt words (groupCount set))
+  judged-as p = begins M S set slot (p .begun) ∙ ap (levelling M slot set) (p .allRead)
+
+  -- 33 comes if and only if a negative count is found
+  abbrev Signs : Levelled → Type 0
+  Signs w =
+      ((g : ℕ) → g < groupCount set → negative (erases words g) ≡ true → w .code ≡ 33)
+      × (w .code ≡ 33 → (g : ℕ) × FirstNegative words (groupCount set) g × (w .place ≡ erasesPlace g))
+
+  -- no pick is answered with 33
+  not-33 : (o : Option ℕ) → writing M T slot set words o .code ≡ 33 → ⊥
+  not-33 none e = omega arith
+  not-33 (some g) e = omega arith
+
+  by-sign : (o : Option ℕ) → negativeAt words (groupCount set) ≡ o → Signs (judging M T slot set words o)
+  by-sign none e = (
+    λ g h below. absurd (false≢true (sym (picks-right .sound words (groupCount set) e g h) ∙ below)),
+    λ refused. absurd (not-33 (picked words (groupCount set)) refused),
+  )
+  by-sign (some place) e =
+      let found = picks-right .first words (groupCount set) place e in
+      (λ g h below. refl, λ refused. (found .0, record { inside = found .1; isNegative = found .3; earlier = found .4 }, found .2))
+
+  signs : AllRead M S set slot words T → Signs (wear M S set slot)
+  signs p = subst Signs (sym (judged-as p)) (by-sign (negativeAt words (groupCount set)) refl)
+
+-- It gives 33 exactly if a count is negative, at the first one's place.
+pub negative-exactly : (M : Model) → NegativeExactly M
+negative-exactly M =
+    record {
+      refuses = λ S set slot words T p. signs M S set slot words T p .0;
+      exactly = λ S set slot words T p. signs M S set slot words T p .1;
     }

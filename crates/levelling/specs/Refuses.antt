@@ -6,7 +6,7 @@ use Prim.Native.Nat.{ℕ, _<_}
 use lib.ListN.{length}
 use Rattle.rules.specs.Model.{Model}
 use Rattle.rules.specs.State.{State}
-use Rattle.pick.specs.Groups.{erases, negative}
+use Rattle.pick.specs.Groups.{erasesPlace, erases, negative}
 use Rattle.pick.specs.PicksRight.{NoneLeft, LeastWorn}
 use Rattle.wearset.specs.WearSet.{groupCount}
 use Rattle.level.specs.Level.{going, readFirst}
@@ -28,3 +28,22 @@ pub record RefusesExactly (M : Model) : Type 0 where
   -- .. else it picks a usable group with the fewest erases, the lowest on a tie.
   pub picks : (S : State) (set : List ℕ) (slot : ℕ) (words : List ℕ) (T : State) → SoundRead M S set slot words T
       → (wear M S set slot .code ≡ 34 → ⊥) → (wear M S set slot .code ≡ 0) × LeastWorn words (groupCount set) (wear M S set slot .word)
+
+-- .. and of the counts' signs: all cells of the set are read, with these words and this state after them
+pub record AllRead (M : Model) (S : State) (set : List ℕ) (slot : ℕ) (words : List ℕ) (T : State) : Type 0 where
+  pub begun : admitted M S set slot ≡ true
+  pub allRead : readFirst M S slot set (length set) ≡ going words T
+
+-- group g is the first of the n whose count is negative, usable or not
+pub record FirstNegative (words : List ℕ) (n g : ℕ) : Type 0 where
+  pub inside : g < n
+  pub isNegative : negative (erases words g) ≡ true
+  pub earlier : (h : ℕ) → h < g → negative (erases words h) ≡ false
+
+pub record NegativeExactly (M : Model) : Type 0 where
+  -- 33 exactly if a count is negative ..
+  pub refuses : (S : State) (set : List ℕ) (slot : ℕ) (words : List ℕ) (T : State) → AllRead M S set slot words T
+      → (g : ℕ) → g < groupCount set → negative (erases words g) ≡ true → wear M S set slot .code ≡ 33
+  -- .. and the place is that of the first such count's cell in the set: 2 × group + 1.
+  pub exactly : (S : State) (set : List ℕ) (slot : ℕ) (words : List ℕ) (T : State) → AllRead M S set slot words T
+      → wear M S set slot .code ≡ 33 → (g : ℕ) × FirstNegative words (groupCount set) g × (wear M S set slot .place ≡ erasesPlace g)
