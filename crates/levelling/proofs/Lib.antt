@@ -10,3 +10,4 @@ pub mod NeverFalls
 pub mod AtC
 pub mod Mix
 pub mod Levels
+pub mod Ignoring

@@ -3,4 +3,5 @@ pub mod Leaves
 pub mod Refuses
 pub mod CountsUp
 pub mod Levels
+pub mod Ignoring
 pub mod AtC
