@@ -1,7 +1,7 @@
 -- Why a count can't fall. In document 01's words a commit has a stamp, a read log and a write log; the replay is what the cells hold once all commits up to a stamp are in.
-use mathlib.Core.Bool.{Bool, true, false}
+use mathlib.Core.Bool.{true, false}
 use mathlib.Core.List.{List, [], _∷_, _++_, map}
-use mathlib.Core.Option.{Option, none, some}
+use mathlib.Core.Option.{none, some}
 use mathlib.Core.Path.{_≡_}
 use Prim.Native.Nat.{ℕ, suc, pred, _<_, _≤_}
 use lib.IntN.{ℤ, sucℤ}

@@ -1,7 +1,7 @@
 -- What the pick rule comes to, said of all groups at once.
 use mathlib.Core.Bool.{true, false}
 use mathlib.Core.List.{List}
-use mathlib.Core.Option.{Option, none, some}
+use mathlib.Core.Option.{none, some}
 use mathlib.Core.Path.{_≡_}
 use Prim.Native.Nat.{ℕ, _<_, _≤_}
 use Rattle.pick.specs.Groups.{erasesPlace, usable, erases, negative, lastCount}
