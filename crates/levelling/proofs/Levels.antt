@@ -27,7 +27,7 @@ use Rattle.wear.specs.Wear.{wear}
 use Rattle.levelling.specs.AsCalls.{admitted}
 use Rattle.levelling.specs.Leaves.{entryOf, wordsOf}
 use Rattle.levelling.specs.CountsUp.{wordsRead, cellsRead, LevelsWith}
-use Rattle.levelling.specs.Levels.{SlotLevels, leavesLogs, Bystander, OperationLevels}
+use Rattle.levelling.specs.Levels.{SlotLevels, leavesLogs, LogsStay, OperationLevels}
 use Rattle.levelling.proofs.ReadLaws.{is-begun, slot-with}
 use Rattle.levelling.proofs.Leaves.{leaves}
 
@@ -101,7 +101,7 @@ module _ (M : Model) (set : List ℕ) (g : ℕ) (S : State) where
   move-stays i (gave-up x) p = absurd (false≢true p)
 
   -- a call of another slot leaves the slot, and one of those steps its logs
-  call-stays : (slot : ℕ) (a : Call) → Bystander slot a → Stays (pred slot) (slotAt (after S (step M S a)) (pred slot))
+  call-stays : (slot : ℕ) (a : Call) → LogsStay slot a → Stays (pred slot) (slotAt (after S (step M S a)) (pred slot))
   call-stays slot a quiet =
       same-or-not _ (pred (a .slot)) (pred slot)
       (λ own.
@@ -111,7 +111,7 @@ module _ (M : Model) (set : List ℕ) (g : ℕ) (S : State) where
       (λ other. rw (frame M .calls a .otherSlots S (pred slot) (λ e. other (sym e))) (λ l. l))
 
 -- .. and so do any number of them
-calls-stay : (M : Model) (set : List ℕ) (g slot : ℕ) (S : State) (calls : List Call) → All (Bystander slot) calls
+calls-stay : (M : Model) (set : List ℕ) (g slot : ℕ) (S : State) (calls : List Call) → All (LogsStay slot) calls
     → SlotLevels set g (slotAt S (pred slot)) → SlotLevels set g (slotAt (final (step M) S calls) (pred slot))
 unfolding final
 calls-stay M set g slot S [] quiet l = l

@@ -24,17 +24,17 @@ unfoldable pub leavesLogs : ℕ → Bool
 leavesLogs number = (leb 4 number and leb number 7) or eqb number 9 or eqb number 11
 
 -- a call of any step by another slot, or of one of those by the slot itself
-abbrev pub Bystander : ℕ → Call → Type 0
-Bystander slot a = pred (a .slot) ≡ pred slot → leavesLogs (a .step) ≡ true
+abbrev pub LogsStay : ℕ → Call → Type 0
+LogsStay slot a = pred (a .slot) ≡ pred slot → leavesLogs (a .step) ≡ true
 
 pub record OperationLevels (M : Model) : Type 0 where
   -- Code 0: the transaction's logs level the set, with the group that is answered.
   pub levels : (S : State) (set : List ℕ) (slot : ℕ) → stateRight M S ≡ true → admitted M S set slot ≡ true → wear M S set slot .code ≡ 0
       → SlotLevels set (wear M S set slot .word) (slotAt (wear M S set slot .state) (pred slot))
-  -- A bystander, accepted or refused, leaves them so.
-  pub kept : (S : State) (set : List ℕ) (g slot : ℕ) (a : Call) → Bystander slot a
+  -- Such a call, accepted or refused, leaves them so.
+  pub kept : (S : State) (set : List ℕ) (g slot : ℕ) (a : Call) → LogsStay slot a
       → SlotLevels set g (slotAt S (pred slot)) → SlotLevels set g (slotAt (after S (step M S a)) (pred slot))
   -- So after the operation and any number of such calls (close, lock and enter among them) a finish of the slot commits what levels.
   pub commitLevels : (S : State) (set : List ℕ) (slot : ℕ) → stateRight M S ≡ true → admitted M S set slot ≡ true → wear M S set slot .code ≡ 0
-      → (calls : List Call) → All (Bystander slot) calls
+      → (calls : List Call) → All (LogsStay slot) calls
       → Levels (committedBy (slotAt (final (step M) (wear M S set slot .state) calls) (pred slot)))
