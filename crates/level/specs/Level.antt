@@ -1,4 +1,5 @@
--- The reads of a wear set's cells, group by group, and what their words lead to: a group is picked, and its count plus one written. Of the core it knows the step alone.
+-- "One operation .. reads all of them (group by group, truth cell first), picks the usable group with the fewest erases, lowest number on a tie, writes its count plus one and
+-- answers its number." Of the core it knows the step alone.
 use mathlib.Core.Bool.{cond}
 use mathlib.Core.List.{List, [], _∷_, _++_}
 use mathlib.Core.Option.{Option, none, some}
@@ -53,7 +54,7 @@ pub record Levelled : Type 0 where
 abbrev pub refusing : ℕ → ℕ → State → Levelled
 refusing place code S = record { place = place; code = code; kind = 0; word = 0; state = S }
 
--- the picked group's count plus one is written, and its number answered; 34: none left
+-- The picked group's count plus one is written, and its number answered. The core does not refuse this write (`written` of `Leaves`, crate `levelling`). 34: none left
 abbrev pub writing : Model → State → ℕ → List ℕ → List ℕ → Option ℕ → Levelled
 writing M S slot set words none = refusing 0 34 S
 writing M S slot set words (some g) =
@@ -73,7 +74,7 @@ judging M S slot set words none = writing M S slot set words (picked words (grou
 abbrev pub judged : Model → State → ℕ → List ℕ → List ℕ → Levelled
 judged M S slot set words = judging M S slot set words (negativeAt words (groupCount set))
 
--- once the reads are made: a core code is passed on with its place
+-- "On a core code it passes that code on with the place in the set (from 0). Reads made before a refusal stay in the log."
 abbrev pub levelling : Model → ℕ → List ℕ → Reading → Levelled
 levelling M slot set (stopped place reply S) =
     record { place = place; code = replyCode reply; kind = replyKind reply; word = replyWord reply; state = S }

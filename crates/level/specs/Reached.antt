@@ -9,7 +9,19 @@ use Rattle.rules.specs.Model.{controller}
 use Rattle.rules.specs.State.{State}
 use Rattle.rules.specs.Layout.{pack}
 use Rattle.area.specs.Good.{Good, stateIn}
-use Rattle.level.specs.Level.{Reading, going, stopped, Levelled, levelledNumber}
+use Rattle.pick.specs.Groups.{truthPlace, erasesPlace}
+use Rattle.level.specs.Level.{Reading, going, stopped, readAt, readFirst, Levelled, levelledNumber}
+
+-- the n cells read so far: their words begin an array, and the area has their state
+abbrev pub soFar : ℕ → List ℕ → List ℕ → Reading
+soFar n array l = going (take n array) (stateIn l)
+
+-- the two cells of a group are read, the truth cell first; all cells of the set are
+abbrev pub readGroup : ℕ → List ℕ → ℕ → Reading → Reading
+readGroup slot set g R = readAt controller slot set (erasesPlace g) (readAt controller slot set (truthPlace g) R)
+
+abbrev pub readAll : List ℕ → ℕ → List ℕ → Reading
+readAll l slot set = readFirst controller (stateIn l) slot set (length set)
 
 -- the reads go on, and 0 says so: the area has their state, and the array begins with their words
 pub record Going (words : List ℕ) (S : State) (r : ℕ) (l array : List ℕ) : Type 0 where

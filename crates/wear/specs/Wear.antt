@@ -1,4 +1,5 @@
--- The wear operation on a state: what is refused before the first read, in this order, then the reads and what their words lead to.
+-- The wear operation on a state. "Refusals: area not well formed, then bad set description (g outside 1 to 8, a cell not below n, twice or of the wrong kind), then slot out of
+-- range, then transaction not open and empty, then core codes in reading order, then negative count, then none left."
 use mathlib.Core.Bool.{not, cond}
 use mathlib.Core.List.{List}
 use Prim.Native.Nat.{ℕ, pred}

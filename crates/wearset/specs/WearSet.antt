@@ -1,4 +1,5 @@
--- A wear set's description: 2 × g bytes for g groups, group by group the truth cell, then the erases cell.
+-- "A wear set has g block groups, 1 to 8, each with a truth cell (usable) and a whole-number cell (erases), 2 × g distinct cells." Its description has 2 × g bytes, group by group
+-- the truth cell, then the erases cell.
 use mathlib.Core.Bool.{Bool, not}
 use mathlib.Core.List.{List}
 use Prim.Native.Nat.{ℕ, _+_, _/_, _%_}

@@ -18,17 +18,11 @@ loop-holds c =
     let start = let c : tie.Start Inv-loop μ-loop = search in c in
     (omega arith, refl, refl, at-first _ _ _ _ (start .pre .0))
 
-mul-truth : tie.Need-mul-truth Inv-loop μ-loop
-mul-truth c = omega arith
-
-add-erases : tie.Need-add-erases Inv-loop μ-loop
-add-erases c = omega arith
-
-read-two-requires : tie.Need-read-two-requires Inv-loop μ-loop
-read-two-requires c κs =
+read-group-requires : tie.Need-read-group-requires Inv-loop μ-loop
+read-group-requires c κs =
     let start = let c : tie.Start Inv-loop μ-loop = search in c in
     let loop = let c : tie.At-loop Inv-loop μ-loop = search in c .loop in
-    ((loop .inv .3 .good, omega arith, omega arith, omega arith), refl)
+    (loop .inv .3 .good, omega arith, omega arith, omega arith)
 
 same-length : tie.Need-same-length Inv-loop μ-loop
 same-length c = omega arith
@@ -39,7 +33,7 @@ same-length-2 c = omega arith
 returns : tie.Need-returns Inv-loop μ-loop
 returns c =
     let loop = let c : tie.At-loop Inv-loop μ-loop = search in c .loop in
-    let two = let c : tie.After-read-two Inv-loop μ-loop = search in c .read-two .ensures in
+    let two = let c : tie.After-read-group Inv-loop μ-loop = search in c .read-group .ensures in
     group-refused _ _ _ _ _ _ (loop .inv .3) _ _ _ two (c .if1 .taken) (omega arith)
 
 add-g : tie.Need-add-g Inv-loop μ-loop
@@ -51,7 +45,7 @@ loop-less c = omega arith
 loop-again : tie.Need-loop-again Inv-loop μ-loop
 loop-again c =
     let loop = let c : tie.At-loop Inv-loop μ-loop = search in c .loop in
-    let two = let c : tie.After-read-two Inv-loop μ-loop = search in c .read-two .ensures in
+    let two = let c : tie.After-read-group Inv-loop μ-loop = search in c .read-group .ensures in
     let zero-answer = let c : tie.Else1 Inv-loop μ-loop = search in c .if1 .left in
     (omega arith, omega arith, omega arith, group-read _ _ _ _ _ _ (loop .inv .3) _ _ _ two zero-answer)
 
@@ -74,9 +68,7 @@ read-all-spec =
     Inv-loop
     μ-loop
     loop-holds
-    mul-truth
-    add-erases
-    read-two-requires
+    read-group-requires
     same-length
     same-length-2
     returns

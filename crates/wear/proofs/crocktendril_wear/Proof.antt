@@ -16,6 +16,9 @@ use Rattle.wear.proofs.crocktendril_wear.Tie as tie
 well-formed-requires : tie.Need-well-formed-requires
 well-formed-requires c κs = search needs
 
+mul-result : tie.Need-mul-result
+mul-result c = search needs
+
 same-length : tie.Need-same-length
 same-length c = search needs
 
@@ -40,8 +43,8 @@ set-right-requires : tie.Need-set-right-requires
 set-right-requires c κs =
     let c : tie.Else1 = search in good-at c
 
-mul-result : tie.Need-mul-result
-mul-result c = search needs
+mul-result-2 : tie.Need-mul-result-2
+mul-result-2 c = search needs
 
 same-length-2 : tie.Need-same-length-2
 same-length-2 c = search needs
@@ -52,8 +55,8 @@ returns-2 c =
     let set-right = let c : tie.After-set-right = search in c .set-right .ensures in
     bad-set _ _ _ good (fails set-right (c .if2 .taken))
 
-mul-result-2 : tie.Need-mul-result-2
-mul-result-2 c = search needs
+mul-result-3 : tie.Need-mul-result-3
+mul-result-3 c = search needs
 
 same-length-3 : tie.Need-same-length-3
 same-length-3 c = search needs
@@ -75,8 +78,8 @@ open-and-empty-requires c κs =
     let args = let c : tie.Start = search in c .args in
     (good, omega (arith, ltb-false 8 (args .slot) high))
 
-mul-result-3 : tie.Need-mul-result-3
-mul-result-3 c = search needs
+mul-result-4 : tie.Need-mul-result-4
+mul-result-4 c = search needs
 
 same-length-4 : tie.Need-same-length-4
 same-length-4 c = search needs
@@ -116,18 +119,19 @@ crocktendril-wear-spec =
     tie.close
     (tie.spec
     well-formed-requires
+    mul-result
     same-length
     returns
     set-right-requires
-    mul-result
+    mul-result-2
     same-length-2
     returns-2
-    mul-result-2
+    mul-result-3
     same-length-3
     returns-3
     sub-open-and-empty
     open-and-empty-requires
-    mul-result-3
+    mul-result-4
     same-length-4
     returns-4
     level-requires

@@ -1,8 +1,15 @@
+use mathlib.Core.Path.{refl}
 use native.Mathlib.Omega.{arith}
 use Rattle.level.proofs.Reading.{truth-refused, truth-read, both-read}
 use borrow.Author.Needs.{needs}
-use Rattle.level.proofs.read_two.Statement.{statement}
-use Rattle.level.proofs.read_two.Tie as tie
+use Rattle.level.proofs.read_group.Statement.{statement}
+use Rattle.level.proofs.read_group.Tie as tie
+
+mul-truth : tie.Need-mul-truth
+mul-truth c = search needs
+
+add-erases : tie.Need-add-erases
+add-erases c = search needs
 
 read-place-requires : tie.Need-read-place-requires
 read-place-requires c κs = search needs
@@ -17,14 +24,14 @@ returns : tie.Need-returns
 returns c =
     let start = let c : tie.Start = search in c in
     let first = let c : tie.After-read-place = search in c .read-place .ensures in
-    truth-refused _ _ _ _ (start .pre .1) _ _ (omega arith) _ _ _ first (c .if1 .taken)
+    truth-refused _ _ _ _ refl _ _ (omega arith) _ _ _ first (c .if1 .taken)
 
 read-place-requires-2 : tie.Need-read-place-requires-2
 read-place-requires-2 c κs =
     let start = let c : tie.Start = search in c in
     let first = let c : tie.After-read-place = search in c .read-place .ensures in
     let zero-answer = let c : tie.Else1 = search in c .if1 .left in
-    (truth-read _ _ _ _ (start .pre .1) _ _ (omega arith) _ _ _ first zero-answer .0, omega arith, omega arith, omega arith)
+    (truth-read _ _ _ _ refl _ _ (omega arith) _ _ _ first zero-answer .0, omega arith, omega arith, omega arith)
 
 same-length-3 : tie.Need-same-length-3
 same-length-3 c = search needs
@@ -38,12 +45,14 @@ returns-2 c =
     let first = let c : tie.After-read-place = search in c .read-place .ensures in
     let zero-answer = let c : tie.Else1 = search in c .if1 .left in
     let second = let c : tie.After-read-place2 = search in c .read-place2 .ensures in
-    both-read _ _ _ _ (start .pre .1) _ _ (omega arith) _ _ _ _ _ _ first zero-answer second
+    both-read _ _ _ _ refl _ _ (omega arith) _ _ _ _ _ _ first zero-answer second
 
-pub read-two-spec : {M : Type 1} → statement M
-read-two-spec =
+pub read-group-spec : {M : Type 1} → statement M
+read-group-spec =
     tie.close
     (tie.spec
+    mul-truth
+    add-erases
     read-place-requires
     same-length
     same-length-2
