@@ -2,17 +2,10 @@
 use mathlib.Core.Bool.{true}
 use mathlib.Core.List.{List}
 use mathlib.Core.Path.{_≡_, refl, sym, _∙_, ap}
-use Prim.Native.Nat.{ℕ, _+_, _*_, _%_, _^_, _<_, _≤_}
-use native.Mathlib.Omega.{arith}
-use Rattle.call.specs.declared.Decoded.{Decoded}
-use Rattle.call.specs.declared.Decoded.the-variants.{Made}
+use Prim.Native.Nat.{ℕ}
 use Rattle.call.specs.declared.Reply.{Reply}
-use Rattle.call.specs.declared.Step.the-variants.{Read}
 use Rattle.call.specs.Decode.{decoded}
-use Rattle.call.specs.Answer.{replyCode, replyKind, replyWord, replyNumber}
-use Rattle.call.proofs.Answer.{code-bound, kind-bound, number-splits}
 use Rattle.rules.specs.Model.{controller}
-use Rattle.rules.specs.State.{State}
 use Rattle.rules.specs.StateRight.{stateRight}
 use Rattle.rules.specs.Outcome.{Outcome, refused, accepted, replyOf, after}
 use Rattle.rules.specs.Step.{Call, stepOf, step}
@@ -22,10 +15,9 @@ use Rattle.rules.proofs.Controller.{controller-fits}
 use Rattle.rules.proofs.RoundTrip.{pack-right, state-back, state-right, round-trip}
 use Rattle.history.proofs.Keeps.{keeps}
 use Rattle.area.specs.Good.{Good, stateIn}
-use Rattle.area.proofs.Good.{good-of, good-kept}
+use Rattle.area.proofs.Good.{good-of}
 use Rattle.ways.specs.Did.{Did}
 use Rattle.crocktendril.proofs.Boundary.{by-number}
-use Rattle.crocktendril.proofs.Words.{step-word}
 
 -- a call on a good area `l` has this reply and leaves `l′`
 pub record Stepping (l : List ℕ) (a : Call) (reply : Reply) (l′ : List ℕ) : Type 0 where

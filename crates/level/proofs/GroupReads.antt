@@ -1,12 +1,11 @@
 -- The reads group by group: where the loop stands before a group, and how it goes on.
 use mathlib.Core.List.{List}
-use mathlib.Core.Path.{_≡_, refl, sym, _∙_, ap, subst}
+use mathlib.Core.Path.{_≡_, refl, ap, subst}
 use Prim.Native.Nat.{ℕ, zero, suc, _+_, _*_, _-_, _≤_}
 use native.Mathlib.Omega.{arith}
 use lib.ListN.{length, take}
 use lib.Seq.{length-take-le}
 use Rattle.rules.specs.Model.{controller}
-use Rattle.rules.specs.State.{State}
 use Rattle.area.specs.Good.{Good, stateIn}
 use Rattle.level.specs.Level.{Reading, going, readAt, readFirst}
 use Rattle.level.specs.Reached.{Reached}

@@ -5,13 +5,12 @@ use mathlib.Core.Path.{_≡_, refl, sym, _∙_, ap}
 use Prim.Native.Nat.{ℕ, suc, _+_, _*_, _^_, _<_, _≤_}
 use native.Mathlib.Numerals.{add-one}
 use native.Mathlib.Omega.{arith}
-use lib.ListN.{length, getD}
+use lib.ListN.{getD}
 use Rattle.call.specs.declared.Decoded.{Decoded}
 use Rattle.call.specs.declared.Reply.{Reply}
 use Rattle.call.specs.Decode.{decoded}
 use Rattle.rules.specs.Model.{controller}
-use Rattle.rules.specs.Outcome.{after}
-use Rattle.rules.specs.Step.{stepOf, step}
+use Rattle.rules.specs.Step.{stepOf}
 use Rattle.rules.specs.Layout.{pack}
 use Rattle.area.specs.Good.{Good, stateIn}
 use Rattle.area.proofs.Good.{good-kept}
@@ -21,9 +20,9 @@ use Rattle.pick.specs.Pick.{negativeAt, picked}
 use Rattle.pick.specs.Found.{foundOr, negativePlace, pickedGroup}
 use Rattle.pick.proofs.PicksRight.{picks-right}
 use Rattle.wearset.specs.WearSet.{groupCount}
-use Rattle.level.specs.Level.{writeOf, writing, judging, judged, levelledNumber}
+use Rattle.level.specs.Level.{writeOf, writing, judged, levelledNumber}
 use Rattle.level.specs.Reached.{Comes}
-use Rattle.level.proofs.CoreStep.{Stepping, stepping}
+use Rattle.level.proofs.CoreStep.{stepping}
 
 -- the count plus one is written, and the group's number answered
 pub write-comes : (l set words : List ℕ) (slot g : ℕ) (d : Decoded) (reply : Reply) (l′ : List ℕ) → Good l

@@ -1,10 +1,10 @@
 -- From the reads to what the operation comes to.
 use mathlib.Core.List.{List}
 use mathlib.Core.Option.{Option, none, some}
-use mathlib.Core.Path.{_≡_, refl, sym, _∙_, ap}
-use Prim.Native.Nat.{ℕ, suc, _*_, _<_, _≤_}
+use mathlib.Core.Path.{_≡_, refl}
+use Prim.Native.Nat.{ℕ, _*_}
 use native.Mathlib.Omega.{arith}
-use lib.ListN.{length, getD, take}
+use lib.ListN.{length, take}
 use lib.Seq.{getD-take}
 use Rattle.call.specs.Answer.{replyNumber}
 use Rattle.rules.specs.Model.{controller}
@@ -14,7 +14,7 @@ use Rattle.pick.specs.Pick.{negativeAt, picked}
 use Rattle.pick.proofs.PicksRight.{picks-right}
 use Rattle.pick.proofs.Alike.{Alike, erases-alike, negative-alike, picked-alike}
 use Rattle.wearset.specs.WearSet.{groupCount}
-use Rattle.level.specs.Level.{Reading, going, stopped, readFirst, Levelled, writing, judging, judged, levelling, levelledNumber}
+use Rattle.level.specs.Level.{Reading, going, stopped, readFirst, writing, judging, judged, levelling, levelledNumber}
 use Rattle.level.specs.Reached.{Reached, Comes}
 use Rattle.level.proofs.Reading.{counted-first, goes-on}
 

@@ -3,3 +3,4 @@ pub mod Reading
 pub mod GroupReads
 pub mod Judging
 pub mod Levels
+pub mod Unique

@@ -11,7 +11,7 @@ use borrow.Author.Tests.{eq-eqb, ne-eqb}
 use Rattle.call.specs.declared.Reply.{Reply}
 use Rattle.call.specs.declared.Step.the-variants.{Read}
 use Rattle.call.specs.declared.Decoded.the-variants.{Made}
-use Rattle.call.specs.Answer.{replyCode, replyKind, replyWord, replyNumber}
+use Rattle.call.specs.Answer.{replyCode, replyWord, replyNumber}
 use Rattle.call.specs.Decode.{decoded}
 use Rattle.call.proofs.Answer.{code-bound, kind-bound, number-splits}
 use Rattle.slot.specs.Layout.{readCapacity}

@@ -1,30 +1,24 @@
 -- What the operation does is what a list of core calls does. A read that is refused leaves the state, so it may stand in the list.
-use mathlib.Core.Bool.{Bool, false, not, cond, false≢true}
+use mathlib.Core.Bool.{Bool, false, not, cond}
 use mathlib.Core.List.{List, [], _∷_, _++_, map, map-append}
 use mathlib.Core.Option.{Option, none, some}
 use mathlib.Core.Path.{_≡_, refl, sym, _∙_, ap}
-use Prim.Native.Nat.{ℕ, zero, suc, pred, _<_, _≤_}
+use Prim.Native.Nat.{ℕ, zero, suc, _<_, _≤_}
 use native.Mathlib.Omega.{arith}
-use lib.Dec.{eqb, leb}
+use lib.Dec.{eqb}
 use lib.ListN.{length, getD, take}
 use lib.Seq.{take-suc, take-length}
 use Rattle.wire.specs.Field.{Bytes}
 use Rattle.call.specs.Answer.{replyCode}
-use Rattle.call.specs.Decode.{decoded}
-use Rattle.slot.specs.Layout.{readCapacity}
 use Rattle.slot.specs.Logic.{_and_}
-use Rattle.slot.specs.Logs.{readEntry, writeEntry}
 use Rattle.rules.specs.Model.{Model, FitsBytes}
-use Rattle.rules.specs.State.{State, cellCount, cellAt, slotAt}
-use Rattle.rules.specs.Cells.{heldByOther, newer}
-use Rattle.rules.specs.Outcome.{Outcome, replyOf, after}
-use Rattle.rules.specs.Steps.{readShared, read}
-use Rattle.rules.specs.Step.{Call, stepOf, step}
+use Rattle.rules.specs.State.{State}
+use Rattle.rules.specs.Outcome.{replyOf, after}
+use Rattle.rules.specs.Step.{Call, step}
 use Rattle.rules.specs.Run.{endState}
 use Rattle.rules.specs.Layout.{pack, stateOf}
 use Rattle.rules.specs.AreaRight.{wellFormed}
 use Rattle.rules.specs.Area.{stepOnBytes}
-use Rattle.rules.proofs.Cases.{cond-case, found-case, open-case}
 use Rattle.rules.proofs.RoundTrip.{pack-state, state-right}
 use Rattle.history.specs.Keeps.{bytesAfter}
 use Rattle.history.proofs.Keeps.{keeps}
@@ -34,27 +28,11 @@ use Rattle.wearset.specs.WearSet.{groupCount}
 use Rattle.level.specs.Level.{readOf, Reading, going, stopped, readAt, readFirst, Levelled, writing, judging, levelling}
 use Rattle.wear.specs.Wear.{wear}
 use Rattle.wear.specs.OnBytes.{LevelledArea, wearOnBytes}
+use Rattle.level.proofs.Reading.{read-kept}
 use Rattle.levelling.specs.AsCalls.{writePicked, writeIfSound, callsMade, wearCalls, AsCalls}
 use Rattle.levelling.proofs.Cases.{wear-case}
 
--- a code other than 0 leaves the state
-abbrev Kept : State → Outcome → Type 0
-Kept S o = eqb (replyCode (replyOf o)) 0 ≡ false → after S o ≡ S
-
 module _ (M : Model) where
-  -- a read that is refused leaves the state, whatever it is
-  read-kept : (S : State) (slot c : ℕ) → Kept S (step M S (readOf slot c))
-  unfolding step stepOf decoded read readShared _and_
-  read-kept S slot c =
-      cond-case (Kept S) (not (leb 1 slot and leb slot (M .slots))) _ _ (λ p e. refl) λ p.
-      open-case (Kept S) (slotAt S (pred slot)) _ (λ p e. refl) λ start reads writes x.
-      cond-case (Kept S) (leb (cellCount S) c) _ _ (λ p e. refl) λ p.
-      found-case (Kept S) (writeEntry writes c) _ _ (λ w p e. refl) λ p.
-      found-case (Kept S) (readEntry reads c) _ _ (λ w p e. refl) λ p.
-      cond-case (Kept S) (leb readCapacity (length reads)) _ _ (λ p e. refl) λ p.
-      cond-case (Kept S) (heldByOther (pred slot) (cellAt S c)) _ _ (λ p e. refl) λ p.
-      cond-case (Kept S) (newer start (cellAt S c)) _ _ (λ p e. refl) λ p e. absurd (false≢true (sym e))
-
   -- calls in two parts
   end-append : (calls more : List Call) (S : State) → endState M S (calls ++ more) ≡ endState M (endState M S calls) more
   unfolding endState

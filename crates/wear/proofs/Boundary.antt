@@ -1,13 +1,12 @@
 -- From what the functions ensure to what C is promised.
 use mathlib.Core.Bool.{true, false}
 use mathlib.Core.List.{List}
-use mathlib.Core.Path.{_≡_, refl, sym, _∙_, ap}
-use Prim.Native.Nat.{ℕ, suc, pred, _*_, _-_, _^_, _<_, _≤_}
+use mathlib.Core.Path.{_≡_, refl}
+use Prim.Native.Nat.{ℕ, pred, _*_, _-_, _^_, _<_, _≤_}
 use native.Mathlib.Omega.{arith}
 use borrow.Author.Tests.{le-leb, lt-leb}
 use lib.ListN.{length}
 use Rattle.slot.specs.Logic.{_and_}
-use Rattle.slot.proofs.Logic.{true-and}
 use Rattle.rules.specs.Model.{controller}
 use Rattle.rules.specs.State.{slotAt}
 use Rattle.rules.specs.AreaRight.{wellFormed}
