@@ -4,6 +4,7 @@ pub mod ReadLaws
 pub mod Leaves
 pub mod Refuses
 pub mod SignedWords
+pub mod RightPick
 pub mod CountsUp
 pub mod StampsRise
 pub mod NeverFalls

@@ -1,7 +1,7 @@
 -- Why a count can't fall. In document 01's words a commit has a stamp, a read log and a write log; the replay is what the cells hold once all commits up to a stamp are in.
-use mathlib.Core.Bool.{Bool, true, false}
+use mathlib.Core.Bool.{true, false}
 use mathlib.Core.List.{List, [], _∷_, _++_, map}
-use mathlib.Core.Option.{Option, none, some}
+use mathlib.Core.Option.{none, some}
 use mathlib.Core.Path.{_≡_}
 use Prim.Native.Nat.{ℕ, suc, pred, _<_, _≤_}
 use lib.IntN.{ℤ, sucℤ}
@@ -25,6 +25,7 @@ use Rattle.history.specs.AreaHistory.{areaHistory}
 use Rattle.history.specs.Keeps.{bytesAfter}
 use Rattle.pick.specs.Groups.{erasesPlace, erases, lastCount}
 use Rattle.pick.specs.Pick.{negativeAt, picked}
+use Rattle.pick.specs.PicksRight.{LeastWorn}
 use Rattle.wearset.specs.WearSet.{groupCount}
 
 -- the words of a read log, and its cells
@@ -58,6 +59,17 @@ pub record RaisesOne (S : State) (events : List Event) (stamp c : ℕ) : Type 0 
   pub raisedSigned : signed (replay S events stamp c) ≡ sucℤ (signed (replay S events (pred stamp) c))
   pub others : (d : ℕ) → (d ≡ c → ⊥) → replay S events stamp d ≡ replay S events (pred stamp) d
 
+-- what the replay holds of a set's cells just before a stamp: what they come to if the commits run one at a time
+abbrev pub wordsBefore : State → List Event → ℕ → List ℕ → List ℕ
+wordsBefore S events stamp set = map (replay S events (pred stamp)) set
+
+-- group g of a set is the right one at a stamp: just before it no count of the set is negative and g is what the pick rule gives, so it is usable and none that
+-- is usable has fewer erases
+pub record RightPick (S : State) (events : List Event) (stamp : ℕ) (set : List ℕ) (g : ℕ) : Type 0 where
+  pub sound : negativeAt (wordsBefore S events stamp set) (groupCount set) ≡ none
+  pub pick : picked (wordsBefore S events stamp set) (groupCount set) ≡ some g
+  pub least : LeastWorn (wordsBefore S events stamp set) (groupCount set) g
+
 -- every commit that writes cell c levels, and ignored no mark
 abbrev pub OnlyLevelled : List Event → ℕ → Type 0
 OnlyLevelled events c = All (λ (x : Commit). writesCell (x .writes) c ≡ true → Levels x × (x .ignoring ≡ false)) (commits events)
@@ -69,6 +81,10 @@ pub record CountsUp (S : State) (events : List Event) : Type 0 where
   pub countsUp :
       All (λ (x : Commit). (set : List ℕ) (g : ℕ) → LevelsWith set g (x .reads) (x .writes) → x .ignoring ≡ false
       → RaisesOne S events (x .stamp) (getD set (erasesPlace g) 0)) (commits events)
+  -- The group that it raises is the least worn one at its commit, and not only when it read: other tasks may have levelled on the same cells in between.
+  pub leastWorn :
+      All (λ (x : Commit). (set : List ℕ) (g : ℕ) → LevelsWith set g (x .reads) (x .writes) → x .ignoring ≡ false
+      → RightPick S events (x .stamp) set g) (commits events)
   -- If every commit that writes a cell levels and ignored no mark, then the replay of that cell never falls from one stamp to a later one.
   pub replayNeverFalls : (c : ℕ) → OnlyLevelled events c → (a b : ℕ) → a ≤ b → signed (replay S events a c) ≤ℤ signed (replay S events b c)
 
