@@ -24,8 +24,9 @@ use Rattle.history.proofs.Histories.{histories}
 use Rattle.pick.specs.Groups.{erasesPlace, erases, lastCount}
 use Rattle.pick.proofs.PicksRight.{picks-right}
 use Rattle.wearset.specs.WearSet.{groupCount}
-use Rattle.levelling.specs.CountsUp.{wordsRead, LevelsWith, signed, RaisesOne, RightPick, OnlyLevelled, CountsUp, CountsUpFromRest}
+use Rattle.levelling.specs.CountsUp.{wordsRead, LevelsWith, signed, RaisesOne, RightPick, OnlyLevelled, CountsUp, CountsAre, CountsUpFromRest, CountsAreFromRest}
 use Rattle.levelling.proofs.RightPick.{set-word, right-pick}
+use Rattle.levelling.proofs.NoneLost.{none-lost, all-counted}
 use Rattle.levelling.proofs.SignedWords.{signed-next, signed-rises, ≤ℤ-trans}
 
 -- where stamps are apart, the log of each commit's stamp is its own
@@ -135,7 +136,20 @@ module _ {S : State} {events : List Event} {T : State} (holds : Demand3 S events
 
   -- of any history that demand 3 holds of
   pub counts-up-of : CountsUp S events
-  counts-up-of = record { countsUp = each-raises; leastWorn = each-right; replayNeverFalls = replay-rises }
+  counts-up-of =
+      record {
+        countsUp = each-raises;
+        leastWorn = each-right;
+        replayNeverFalls = replay-rises;
+        noneLost = λ c only. none-lost S events c (raised-at c only);
+      }
+
+  pub counts-are-of : CountsAre S events T
+  counts-are-of =
+      record {
+        cellCounts = λ c there free only. holds .cellsHold c there free ∙ none-lost S events c (raised-at c only) (T .clock);
+        allCounted = λ c. all-counted (commits events) (S .clock) (T .clock) c (holds .stampsApart) (holds .stampsWithin);
+      }
 
 -- from rest, for any calls
 pub counts-up : (M : Model) → FitsBytes M → CountsUpFromRest M
@@ -143,4 +157,11 @@ counts-up M fits =
     record {
       ofStates = λ S rest calls. counts-up-of (histories M fits .ofStates S rest calls);
       ofAreas = λ a bytes rest calls. counts-up-of (histories M fits .ofAreas a bytes rest calls);
+    }
+
+pub counts-are : (M : Model) → FitsBytes M → CountsAreFromRest M
+counts-are M fits =
+    record {
+      ofStates = λ S rest calls. counts-are-of (histories M fits .ofStates S rest calls);
+      ofAreas = λ a bytes rest calls. counts-are-of (histories M fits .ofAreas a bytes rest calls);
     }
