@@ -17,8 +17,8 @@ use Rattle.history.proofs.Invariant.{all-each}
 use Rattle.history.proofs.Replay.{quiet}
 use Rattle.levelling.specs.CountsUp.{RaisesOne, counted, timesWritten, writers}
 
--- a stamp that writes the cell counts as one, any other as none
 module _ (S : State) (events : List Event) (c : ℕ) (raises : (k : ℕ) → writesCell (logAt (commits events) k) c ≡ true → RaisesOne S events k c) where
+  -- a stamp that writes the cell counts as one, any other as none
   next-count : (b : ℕ) → replay S events (suc b) c ≡ replay S events b c + counted (logAt (commits events) (suc b)) c
   next-count b = by (writesCell (logAt (commits events) (suc b)) c) refl
     where

@@ -76,7 +76,7 @@ pub record WearAtC : Type 0 where
   pub untouched : (l set : List ℕ) (slot r : ℕ) (l′ : List ℕ) → Bytes l → Worn l set slot r l′
       → (r / 2 ^ 40 % 2 ^ 8 ≡ 1) ⊎ (r / 2 ^ 40 % 2 ^ 8 ≡ 32) ⊎ (r / 2 ^ 40 % 2 ^ 8 ≡ 3) ⊎ (r / 2 ^ 40 % 2 ^ 8 ≡ 4) → l′ ≡ l
 
--- Steps and wear operations, in any mix, from an area at rest.
+-- Steps and wear operations, in any mix, from an area at rest; one that was laid out is.
 pub record MixAtC : Type 0 where
   pub keepsWellFormed : (l : List ℕ) (made : List Made) → Bytes l → wellFormed controller l ≡ true → inTurn l made → wellFormed controller (lastLeft l made) ≡ true
   -- On an area that was laid out, and then only used by these two functions, neither of them ever answers code 1.
@@ -85,10 +85,10 @@ pub record MixAtC : Type 0 where
       → Demand3 (stateOf controller l) (happened l made) (stateOf controller (lastLeft l made))
   pub demand3FromLayOut : (l ds a : List ℕ) (made : List Made) → LaidOut l ds 0 a → inTurn a made
       → Demand3 (stateOf controller a) (happened a made) (stateOf controller (lastLeft a made))
-  -- Each commit that levels raises the least worn group's count by exactly one ..
+  -- Each commit that levels and ignored no mark raises the least worn group's count by exactly one ..
   pub countsUp : (l : List ℕ) (made : List Made) → Bytes l → atRest controller l ≡ true → inTurn l made → CountsUp (stateOf controller l) (happened l made)
   pub countsUpFromLayOut : (l ds a : List ℕ) (made : List Made) → LaidOut l ds 0 a → inTurn a made → CountsUp (stateOf controller a) (happened a made)
-  -- .. the count in the area is what it began with and one more for each commit that wrote it ..
+  -- .. a count that only such commits write is what it began with and one more for each of them ..
   pub countsAre : (l : List ℕ) (made : List Made) → Bytes l → atRest controller l ≡ true → inTurn l made
       → CountsAre (stateOf controller l) (happened l made) (stateOf controller (lastLeft l made))
   pub countsAreFromLayOut : (l ds a : List ℕ) (made : List Made) → LaidOut l ds 0 a → inTurn a made

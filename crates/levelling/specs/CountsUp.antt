@@ -95,23 +95,16 @@ pub record CountsUp (S : State) (events : List Event) : Type 0 where
   pub countsUp :
       All (λ (x : Commit). (set : List ℕ) (g : ℕ) → LevelsWith set g (x .reads) (x .writes) → x .ignoring ≡ false
       → RaisesOne S events (x .stamp) (getD set (erasesPlace g) 0)) (commits events)
-  -- The group that it raises is the least worn one at its commit, and not only when it read: other tasks may have levelled on the same cells in between.
+  -- The group that it raises is the least worn one at its commit, and not only when its cells were read: whatever other tasks committed in between, the counts
+  -- that it was picked by are those that stand just before its stamp.
   pub leastWorn :
       All (λ (x : Commit). (set : List ℕ) (g : ℕ) → LevelsWith set g (x .reads) (x .writes) → x .ignoring ≡ false
       → RightPick S events (x .stamp) set g) (commits events)
+  -- If every commit that writes a cell levels and ignored no mark, then the replay of that cell is at every stamp what the cell began with, and one more for each
+  -- commit up to there that wrote it: no erase is lost, and none is counted twice.
+  pub noneLost : (c : ℕ) → OnlyLevelled events c → (b : ℕ) → replay S events b c ≡ cellAt S c .word + timesWritten (commits events) b c
   -- If every commit that writes a cell levels and ignored no mark, then the replay of that cell never falls from one stamp to a later one.
   pub replayNeverFalls : (c : ℕ) → OnlyLevelled events c → (a b : ℕ) → a ≤ b → signed (replay S events a c) ≤ℤ signed (replay S events b c)
-  -- .. and it is at every stamp what the cell began with, and one more for each commit so far that wrote the cell: no erase is lost, and none is counted twice.
-  pub noneLost : (c : ℕ) → OnlyLevelled events c → (b : ℕ) → replay S events b c ≡ cellAt S c .word + timesWritten (commits events) b c
-
--- of a history from state S to state T: what stands in the cells at its end
-pub record CountsAre (S : State) (events : List Event) (T : State) : Type 0 where
-  -- If every commit that writes a cell levels and ignored no mark, and no slot is just publishing to it, then the cell has the count that it began with and one
-  -- more for each commit that wrote it.
-  pub cellCounts : (c : ℕ) → c < cellCount T → publishes T (cellAt T c .holder) ≡ false → OnlyLevelled events c
-      → cellAt T c .word ≡ cellAt S c .word + timesWritten (commits events) (T .clock) c
-  -- Each commit of the history is among those counted, and once: the stamps up to the clock have them all, and no two of them have the same.
-  pub allCounted : (c : ℕ) → timesWritten (commits events) (T .clock) c ≡ writers (commits events) c
 
 -- .. and the cell itself, after any call, is at least what it was after any earlier call, whatever the tasks interleave
 pub record NeverFalls (M : Model) : Type 0 where
@@ -121,6 +114,15 @@ pub record NeverFalls (M : Model) : Type 0 where
   pub ofAreas : (a : List ℕ) → Bytes a → atRest M a ≡ true → (earlier later : List Call) (c : ℕ)
       → OnlyLevelled (areaHistory M a (earlier ++ later)) c
       → signed (cellAt (stateOf M (bytesAfter M a earlier)) c .word) ≤ℤ signed (cellAt (stateOf M (bytesAfter M a (earlier ++ later))) c .word)
+
+-- of a history from state S to state T: what stands in the cells at its end
+pub record CountsAre (S : State) (events : List Event) (T : State) : Type 0 where
+  -- If every commit that writes a cell levels and ignored no mark, and no slot is just publishing to it, then the cell has the count that it began with and one
+  -- more for each commit that wrote it.
+  pub cellCounts : (c : ℕ) → c < cellCount T → publishes T (cellAt T c .holder) ≡ false → OnlyLevelled events c
+      → cellAt T c .word ≡ cellAt S c .word + timesWritten (commits events) (T .clock) c
+  -- Each commit of the history is among those counted, and once: the stamps up to the clock have them all, and no two of them have the same.
+  pub allCounted : (c : ℕ) → timesWritten (commits events) (T .clock) c ≡ writers (commits events) c
 
 -- from rest, for any calls
 pub record CountsUpFromRest (M : Model) : Type 0 where
