@@ -3,7 +3,7 @@ use mathlib.Core.Bool.{Bool, true, false}
 use mathlib.Core.List.{List}
 use mathlib.Core.Logic.{_⊎_, inl, inr}
 use mathlib.Core.Option.{Option, none, some}
-use mathlib.Core.Path.{_≡_, refl, _∙_, ap, subst}
+use mathlib.Core.Path.{_≡_, refl, sym, _∙_, ap, subst}
 use Prim.Native.Nat.{ℕ, _/_, _%_, _^_, _<_, _≤_}
 use native.Mathlib.Omega.{arith}
 use lib.Dec.{lit<}
@@ -39,11 +39,12 @@ Early code = (code ≡ 1) ⊎ (code ≡ 32) ⊎ (code ≡ 3) ⊎ (code ≡ 4)
 early : (code : ℕ) → Early code → (1 ≤ code) × (code ≤ 32) × (code ≡ 10 → ⊥)
 early code = elim [ inl e ↦ omega arith | inr (inl e) ↦ omega arith | inr (inr (inl e)) ↦ omega arith | inr (inr (inr e)) ↦ omega arith ]
 
--- each part is below the next one's weight, and with an early code the state is as it was
+-- each part is below the next one's weight, the code is not 1, and with an early code the state is as it was
 record Fits (S : State) (w : Levelled) : Type 0 where
   code-fits : w .code < 2 ^ 8
   kind-fits : w .kind < 2 ^ 8
   word-fits : w .word < 2 ^ 32
+  not-one : w .code ≡ 1 → ⊥
   kept : Early (w .code) → w .state ≡ S
 
 -- place, code, kind and word come back from the number
@@ -58,13 +59,14 @@ number-parts S w f =
 
 module _ (M : Model) (S : State) (set : List ℕ) (slot : ℕ) (right : stateRight M S ≡ true) where
   -- a refusal has kind and word 0
-  refusing-fits : (place code : ℕ) (T : State) → code < 2 ^ 8 → (Early code → T ≡ S) → Fits S (refusing place code T)
-  refusing-fits place code T h kept = record { code-fits = h; kind-fits = lit< tt; word-fits = lit< tt; kept = kept }
+  refusing-fits : (place code : ℕ) (T : State) → 1 < code → code < 2 ^ 8 → (Early code → T ≡ S) → Fits S (refusing place code T)
+  refusing-fits place code T low high kept =
+      record { code-fits = high; kind-fits = lit< tt; word-fits = lit< tt; not-one = λ one. omega arith; kept = kept }
 
   module _ (adm : admitted M S set slot ≡ true) where
     -- 34, or a group's number, which is below 8
     write-fits : (words : List ℕ) (T : State) (o : Option ℕ) → picked words (groupCount set) ≡ o → Fits S (writing M T slot set words o)
-    write-fits words T none e = refusing-fits 0 34 T (lit< tt) (λ c. let low = early 34 c .1 in absurd (omega arith))
+    write-fits words T none e = refusing-fits 0 34 T (lit< tt) (lit< tt) (λ c. let low = early 34 c .1 in absurd (omega arith))
     write-fits words T (some g) e =
         let few = picks-right .pick words (groupCount set) g e .inside in
         let short = is-begun M S set slot right adm .short in
@@ -72,13 +74,14 @@ module _ (M : Model) (S : State) (set : List ℕ) (slot : ℕ) (right : stateRig
           code-fits = lit< tt;
           kind-fits = lit< tt;
           word-fits = omega arith;
+          not-one = λ one. omega arith;
           kept = λ c. let high = early 0 c .0 in absurd (omega arith);
         }
 
     -- 33, or one of those
     judge-fits : (words : List ℕ) (T : State) (o : Option ℕ) → Fits S (judging M T slot set words o)
     judge-fits words T none = write-fits words T (picked words (groupCount set)) refl
-    judge-fits words T (some place) = refusing-fits place 33 T (lit< tt) (λ c. let low = early 33 c .1 in absurd (omega arith))
+    judge-fits words T (some place) = refusing-fits place 33 T (lit< tt) (lit< tt) (λ c. let low = early 33 c .1 in absurd (omega arith))
 
     -- 10 with nothing beside it, or one of those
     reads-fit : (r : Reading) → readFirst M S slot set (length set) ≡ r → Fits S (levelling M slot set r)
@@ -88,13 +91,19 @@ module _ (M : Model) (S : State) (set : List ℕ) (slot : ℕ) (right : stateRig
         let bare = refusal-bare reply (omega arith) in
         let kind = bare .0 in
         let word = bare .1 in
-        record { code-fits = omega arith; kind-fits = omega arith; word-fits = omega arith; kept = λ c. absurd (early (replyCode reply) c .2 ten) }
+        record {
+          code-fits = omega arith;
+          kind-fits = omega arith;
+          word-fits = omega arith;
+          not-one = λ one. omega arith;
+          kept = λ c. absurd (early (replyCode reply) c .2 ten);
+        }
 
   -- so of the operation on any well-formed state
   wear-fits : Fits S (wear M S set slot)
   wear-fits =
       wear-case M S set slot (λ (w : Levelled) (b : Bool). admitted M S set slot ≡ b → Fits S w)
-      (λ e. refusing-fits 0 32 S (lit< tt) (λ c. refl)) (λ e. refusing-fits 0 3 S (lit< tt) (λ c. refl)) (λ e. refusing-fits 0 4 S (lit< tt) (λ c. refl))
+      (λ e. refusing-fits 0 32 S (lit< tt) (lit< tt) (λ c. refl)) (λ e. refusing-fits 0 3 S (lit< tt) (lit< tt) (λ c. refl)) (λ e. refusing-fits 0 4 S (lit< tt) (lit< tt) (λ c. refl))
       (λ e. reads-fit e (readFirst M S slot set (length set)) refl) refl
 
 -- of a well-formed area: what the number and the bytes are
@@ -112,6 +121,10 @@ module _ (l set : List ℕ) (slot r : ℕ) (l′ : List ℕ) (bytes : Bytes l) (
   unfolding wearOnBytes
   wear-parts = rw (worn .answer, p) (number-parts (stateOf controller l) w fits)
 
+  -- .. and its code is not 1
+  wear-not-one : r / 2 ^ 40 % 2 ^ 8 ≡ 1 → ⊥
+  wear-not-one one = fits .not-one (sym (wear-parts .1) ∙ one)
+
   -- an early code packs the state that was unpacked
   untouched-good : Early (r / 2 ^ 40 % 2 ^ 8) → l′ ≡ l
   unfolding wearOnBytes
@@ -124,6 +137,7 @@ wear-at-c =
     record {
       definite = λ l set slot r₁ r₂ l₁ l₂ s t. (unique (s .answer) (t .answer), unique (s .bytes) (t .bytes));
       parts = wear-parts;
+      areaNever1 = wear-not-one;
       untouched = λ l set slot r l′ bytes worn c. by l set slot r l′ bytes worn c (wellFormed controller l) refl;
     }
   where

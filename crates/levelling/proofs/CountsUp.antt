@@ -4,11 +4,9 @@ use mathlib.Core.List.{List, [], _∷_}
 use mathlib.Core.Option.{some}
 use mathlib.Core.Path.{_≡_, refl, sym, _∙_, ap, subst, subst₂}
 use Prim.Native.Nat.{ℕ, zero, suc, pred, _<_, _≤_}
-use native.Mathlib.Nat.{not-suc-le-zero, le-of-suc-le-suc}
 use native.Mathlib.Omega.{arith}
 use lib.Dec.{eqb}
-use lib.ListN.{length, getD, length-map, length-take}
-use lib.Seq.{getD-take}
+use lib.ListN.{length, getD}
 use lib.Signed.{_≤ℤ_, ≤ℤ-refl}
 use borrow.Author.Tests.{eqb-true, eq-eqb, ne-eqb, not-true}
 use Rattle.slot.specs.declared.ReadEntry.{ReadEntry}
@@ -26,15 +24,10 @@ use Rattle.history.proofs.Histories.{histories}
 use Rattle.pick.specs.Groups.{erasesPlace, erases, lastCount}
 use Rattle.pick.proofs.PicksRight.{picks-right}
 use Rattle.wearset.specs.WearSet.{groupCount}
-use Rattle.levelling.specs.CountsUp.{wordsRead, cellsRead, LevelsWith, signed, RaisesOne, OnlyLevelled, CountsUp, CountsUpFromRest}
+use Rattle.levelling.specs.CountsUp.{wordsRead, LevelsWith, signed, RaisesOne, RightPick, OnlyLevelled, CountsUp, CountsAre, CountsUpFromRest, CountsAreFromRest}
+use Rattle.levelling.proofs.RightPick.{set-word, right-pick}
+use Rattle.levelling.proofs.NoneLost.{none-lost, all-counted}
 use Rattle.levelling.proofs.SignedWords.{signed-next, signed-rises, ≤ℤ-trans}
-
--- a read log in which each word is what f has at its cell
-read-word : (f : ℕ → ℕ) (reads : List ReadEntry) → All (λ (e : ReadEntry). e .word ≡ f (e .cell)) reads → (k : ℕ) → k < length reads
-    → getD (wordsRead reads) k 0 ≡ f (getD (cellsRead reads) k 0)
-read-word f [] had k h = absurd (not-suc-le-zero h)
-read-word f (e ∷ reads) had zero h = had .0
-read-word f (e ∷ reads) had (suc k) h = read-word f reads (had .1) k (le-of-suc-le-suc h)
 
 -- where stamps are apart, the log of each commit's stamp is its own
 own-logs : (L : List Commit) → pairwise (λ (x y : Commit). not (eqb (x .stamp) (y .stamp))) L ≡ true
@@ -78,14 +71,9 @@ module _ (S : State) (events : List Event) where
   raises x positive log had set g levels =
       let c : ℕ = getD set (erasesPlace g) 0 in
       let least = picks-right .pick (wordsRead (x .reads)) (groupCount set) g (levels .pick) in
-      let cut = length-take (length set) (cellsRead (x .reads)) in
-      let same = ap length (levels .cells) in
-      let all = length-map (x .reads) (λ (e : ReadEntry). e .cell) in
       let inside : erasesPlace g < length set = omega (arith, least .inside) in
       let word : erases (wordsRead (x .reads)) g ≡ replay S events (pred (x .stamp)) c =
-      read-word (replay S events (pred (x .stamp))) (x .reads) had (erasesPlace g) (omega arith)
-      ∙ ap (replay S events (pred (x .stamp)))
-      (sym (getD-take (length set) (cellsRead (x .reads)) (erasesPlace g) 0 inside) ∙ ap (λ (cells : List ℕ). getD cells (erasesPlace g) 0) (levels .cells)) in
+      set-word (replay S events (pred (x .stamp))) (x .reads) had set (levels .cells) (erasesPlace g) inside in
       let entry : WriteEntry = record { cell = c; word = suc (erases (wordsRead (x .reads)) g) } in
       let raised : replay S events (x .stamp) c ≡ suc (replay S events (pred (x .stamp)) c) =
       writer-leaves (logAt (commits events)) _ (x .stamp) c entry positive
@@ -116,6 +104,11 @@ module _ {S : State} {events : List Event} {T : State} (holds : Demand3 S events
       (commits events)
       (All-both _ _ (commits events) (own-logs (commits events) (holds .stampsApart)) (All-both _ _ (commits events) (holds .stampsWithin) (holds .commitsHad)))
 
+  -- .. that of the group which is least worn just before its stamp
+  each-right : All (λ (x : Commit). (set : List ℕ) (g : ℕ) → LevelsWith set g (x .reads) (x .writes) → x .ignoring ≡ false
+      → RightPick S events (x .stamp) set g) (commits events)
+  each-right = All-map _ _ (λ x had set g levels off. right-pick S events x (had off) set g levels) (commits events) (holds .commitsHad)
+
   module _ (c : ℕ) (only : OnlyLevelled events c) where
     -- a stamp that writes the cell raises it by one
     raised-at : (k : ℕ) → writesCell (logAt (commits events) k) c ≡ true → RaisesOne S events k c
@@ -143,7 +136,20 @@ module _ {S : State} {events : List Event} {T : State} (holds : Demand3 S events
 
   -- of any history that demand 3 holds of
   pub counts-up-of : CountsUp S events
-  counts-up-of = record { countsUp = each-raises; replayNeverFalls = replay-rises }
+  counts-up-of =
+      record {
+        countsUp = each-raises;
+        leastWorn = each-right;
+        replayNeverFalls = replay-rises;
+        noneLost = λ c only. none-lost S events c (raised-at c only);
+      }
+
+  pub counts-are-of : CountsAre S events T
+  counts-are-of =
+      record {
+        cellCounts = λ c there free only. holds .cellsHold c there free ∙ none-lost S events c (raised-at c only) (T .clock);
+        allCounted = λ c. all-counted (commits events) (S .clock) (T .clock) c (holds .stampsApart) (holds .stampsWithin);
+      }
 
 -- from rest, for any calls
 pub counts-up : (M : Model) → FitsBytes M → CountsUpFromRest M
@@ -151,4 +157,11 @@ counts-up M fits =
     record {
       ofStates = λ S rest calls. counts-up-of (histories M fits .ofStates S rest calls);
       ofAreas = λ a bytes rest calls. counts-up-of (histories M fits .ofAreas a bytes rest calls);
+    }
+
+pub counts-are : (M : Model) → FitsBytes M → CountsAreFromRest M
+counts-are M fits =
+    record {
+      ofStates = λ S rest calls. counts-are-of (histories M fits .ofStates S rest calls);
+      ofAreas = λ a bytes rest calls. counts-are-of (histories M fits .ofAreas a bytes rest calls);
     }

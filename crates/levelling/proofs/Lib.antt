@@ -4,6 +4,8 @@ pub mod ReadLaws
 pub mod Leaves
 pub mod Refuses
 pub mod SignedWords
+pub mod RightPick
+pub mod NoneLost
 pub mod CountsUp
 pub mod StampsRise
 pub mod NeverFalls

@@ -3,8 +3,11 @@ use mathlib.Core.Bool.{true}
 use mathlib.Core.List.{List, [], _∷_, _++_, append-assoc}
 use mathlib.Core.Path.{_≡_, refl, sym, _∙_, ap, subst}
 use Prim.Native.Nat.{ℕ}
+use lib.Signed.{_≤ℤ_}
 use Rattle.wire.specs.Field.{Bytes}
+use Rattle.slot.specs.Logic.{All}
 use Rattle.rules.specs.Model.{Model, controller}
+use Rattle.rules.specs.State.{cellAt}
 use Rattle.rules.specs.Step.{Call}
 use Rattle.rules.specs.Layout.{stateOf}
 use Rattle.rules.specs.Area.{stepOnBytes, atRest}
@@ -12,12 +15,16 @@ use Rattle.rules.proofs.Controller.{controller-fits}
 use Rattle.rules.proofs.LaidOut.{lays-out}
 use Rattle.history.specs.History.{Demand3}
 use Rattle.history.specs.Keeps.{bytesAfter}
+use Rattle.history.proofs.Keeps.{keeps}
 use Rattle.history.proofs.Keeps.OnBytes.{Good, run-good}
 use Rattle.history.proofs.Histories.{histories, rest-right}
-use Rattle.crocktendril.proofs.Demands.{laid-bytes}
-use Rattle.levelling.specs.AtC.{Made, stepMade, wearMade, leftBy, Keeping, inTurn, lastLeft, coreCalls, allCoreCalls, happened, MixAtC}
+use Rattle.fresh.specs.LaidOut.{LaidOut}
+use Rattle.crocktendril.proofs.Demands.{laid-bytes, demand1}
+use Rattle.levelling.specs.AtC.{Made, stepMade, wearMade, leftBy, Keeping, inTurn, lastLeft, coreCalls, allCoreCalls, happened, codeIn, MixAtC}
+use Rattle.levelling.specs.CountsUp.{CountsUp, CountsAre, OnlyLevelled, signed}
 use Rattle.levelling.proofs.AsCalls.{as-calls}
-use Rattle.levelling.proofs.CountsUp.{counts-up-of}
+use Rattle.levelling.proofs.AtC.{wear-at-c}
+use Rattle.levelling.proofs.CountsUp.{counts-up-of, counts-are-of}
 use Rattle.levelling.proofs.NeverFalls.{never-falls}
 
 -- core calls in two parts
@@ -69,6 +76,43 @@ from-rest : (l : List ℕ) (made : List Made) → Bytes l → atRest controller 
 from-rest l made bytes rest turns =
     rw (same-end made l (rest-good l bytes rest) turns) (histories controller controller-fits .ofAreas l bytes rest (allCoreCalls l made))
 
+-- .. and so what follows from it
+counts-up-rest : (l : List ℕ) (made : List Made) → Bytes l → atRest controller l ≡ true → inTurn l made → CountsUp (stateOf controller l) (happened l made)
+counts-up-rest l made bytes rest turns = counts-up-of (from-rest l made bytes rest turns)
+
+counts-are-rest : (l : List ℕ) (made : List Made) → Bytes l → atRest controller l ≡ true → inTurn l made
+    → CountsAre (stateOf controller l) (happened l made) (stateOf controller (lastLeft l made))
+counts-are-rest l made bytes rest turns = counts-are-of (from-rest l made bytes rest turns)
+
+-- what the core calls of a cell's writers never lower, the mix never lowers
+falls-not-rest : (l : List ℕ) (earlier later : List Made) → Bytes l → atRest controller l ≡ true → inTurn l (earlier ++ later) → (c : ℕ)
+    → OnlyLevelled (happened l (earlier ++ later)) c
+    → signed (cellAt (stateOf controller (lastLeft l earlier)) c .word) ≤ℤ signed (cellAt (stateOf controller (lastLeft l (earlier ++ later))) c .word)
+falls-not-rest l earlier later bytes rest turns c only =
+    let good = rest-good l bytes rest in
+    let cut = calls-append earlier later l in
+    rw (same-end earlier l good (turns-front earlier later l turns), same-end (earlier ++ later) l good turns, cut)
+    (never-falls controller controller-fits .ofAreas l bytes rest (allCoreCalls l earlier) (allCoreCalls (lastLeft l earlier) later) c (rw cut at only))
+
+-- no call on a well-formed area is answered with code 1
+call-not-1 : (l : List ℕ) → Good controller l → (m : Made) → Keeping l m → codeIn m ≡ 1 → ⊥
+call-not-1 l good (stepMade call answer left) kept one =
+    keeps controller controller-fits .areaNever1 l call (good .right) (sym (demand1 .code l call answer left kept) ∙ one)
+call-not-1 l good (wearMade set slot answer left) kept one = wear-at-c .areaNever1 l set slot answer left (good .bytes) (good .right) kept one
+
+not-1 : (made : List Made) (l : List ℕ) → Good controller l → inTurn l made → All (λ (m : Made). codeIn m ≡ 1 → ⊥) made
+unfolding inTurn
+not-1 [] l good turns = tt
+not-1 (m ∷ made) l good turns = (call-not-1 l good m (turns .0), not-1 made (leftBy m) (call-good l good m (turns .0)) (turns .1))
+
+-- a laid-out area is bytes, and at rest
+module _ {l ds a : List ℕ} (laidOut : LaidOut l ds 0 a) where
+  laid : Bytes a
+  laid = rw (laidOut .bytes) (laid-bytes l ds (sym (laidOut .answer)))
+
+  resting : atRest controller a ≡ true
+  resting = rw (laidOut .bytes) (lays-out controller controller-fits .rests l ds (sym (laidOut .answer)))
+
 -- Steps and wear operations in any mix.
 pub mix-at-c : MixAtC
 mix-at-c =
@@ -76,14 +120,13 @@ mix-at-c =
       keepsWellFormed = λ l made bytes right turns.
           let good : Good controller l = record { bytes = bytes; right = right } in
           rw (same-end made l good turns) (run-good controller controller-fits l (allCoreCalls l made) good .right);
+      never1 = λ l ds a made laidOut turns. not-1 made a (rest-good a (laid laidOut) (resting laidOut)) turns;
       demand3 = from-rest;
-      demand3FromLayOut = λ l ds a made laidOut turns.
-          let done = sym (laidOut .answer) in
-          from-rest a made (rw (laidOut .bytes) (laid-bytes l ds done)) (rw (laidOut .bytes) (lays-out controller controller-fits .rests l ds done)) turns;
-      countsUp = λ l made bytes rest turns. counts-up-of (from-rest l made bytes rest turns);
-      neverFalls = λ l earlier later bytes rest turns c only.
-          let good = rest-good l bytes rest in
-          let cut = calls-append earlier later l in
-          rw (same-end earlier l good (turns-front earlier later l turns), same-end (earlier ++ later) l good turns, cut)
-          (never-falls controller controller-fits .ofAreas l bytes rest (allCoreCalls l earlier) (allCoreCalls (lastLeft l earlier) later) c (rw cut at only));
+      demand3FromLayOut = λ l ds a made laidOut turns. from-rest a made (laid laidOut) (resting laidOut) turns;
+      countsUp = counts-up-rest;
+      countsUpFromLayOut = λ l ds a made laidOut turns. counts-up-rest a made (laid laidOut) (resting laidOut) turns;
+      countsAre = counts-are-rest;
+      countsAreFromLayOut = λ l ds a made laidOut turns. counts-are-rest a made (laid laidOut) (resting laidOut) turns;
+      neverFalls = falls-not-rest;
+      neverFallsFromLayOut = λ l ds a earlier later laidOut turns c only. falls-not-rest a earlier later (laid laidOut) (resting laidOut) turns c only;
     }

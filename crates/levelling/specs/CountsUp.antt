@@ -1,9 +1,9 @@
 -- Why a count can't fall. In document 01's words a commit has a stamp, a read log and a write log; the replay is what the cells hold once all commits up to a stamp are in.
-use mathlib.Core.Bool.{true, false}
+use mathlib.Core.Bool.{true, false, cond}
 use mathlib.Core.List.{List, [], _∷_, _++_, map}
 use mathlib.Core.Option.{none, some}
 use mathlib.Core.Path.{_≡_}
-use Prim.Native.Nat.{ℕ, suc, pred, _<_, _≤_}
+use Prim.Native.Nat.{ℕ, zero, suc, pred, _+_, _<_, _≤_}
 use lib.IntN.{ℤ, sucℤ}
 use lib.Signed.{_≤ℤ_}
 use lib.ListN.{length, getD, take}
@@ -15,16 +15,17 @@ use Rattle.slot.specs.declared.WriteEntry.{WriteEntry}
 use Rattle.slot.specs.Logic.{All}
 use Rattle.slot.specs.Logs.{writesCell}
 use Rattle.rules.specs.Model.{Model}
-use Rattle.rules.specs.State.{State, cellAt}
+use Rattle.rules.specs.State.{State, cellCount, cellAt}
 use Rattle.rules.specs.StateRight.{stateAtRest}
 use Rattle.rules.specs.Step.{Call, step}
 use Rattle.rules.specs.Layout.{stateOf}
 use Rattle.rules.specs.Area.{atRest}
-use Rattle.history.specs.History.{Event, history, final, Commit, commits, replay}
+use Rattle.history.specs.History.{Event, history, final, Commit, commits, logAt, replay, publishes}
 use Rattle.history.specs.AreaHistory.{areaHistory}
 use Rattle.history.specs.Keeps.{bytesAfter}
 use Rattle.pick.specs.Groups.{erasesPlace, erases, lastCount}
 use Rattle.pick.specs.Pick.{negativeAt, picked}
+use Rattle.pick.specs.PicksRight.{LeastWorn}
 use Rattle.wearset.specs.WearSet.{groupCount}
 
 -- the words of a read log, and its cells
@@ -58,9 +59,34 @@ pub record RaisesOne (S : State) (events : List Event) (stamp c : ℕ) : Type 0 
   pub raisedSigned : signed (replay S events stamp c) ≡ sucℤ (signed (replay S events (pred stamp) c))
   pub others : (d : ℕ) → (d ≡ c → ⊥) → replay S events stamp d ≡ replay S events (pred stamp) d
 
+-- what the replay holds of a set's cells just before a stamp: what they come to if the commits run one at a time
+abbrev pub wordsBefore : State → List Event → ℕ → List ℕ → List ℕ
+wordsBefore S events stamp set = map (replay S events (pred stamp)) set
+
+-- group g of a set is the right one at a stamp: just before it no count of the set is negative and g is what the pick rule gives, so it is usable and none that
+-- is usable has fewer erases
+pub record RightPick (S : State) (events : List Event) (stamp : ℕ) (set : List ℕ) (g : ℕ) : Type 0 where
+  pub sound : negativeAt (wordsBefore S events stamp set) (groupCount set) ≡ none
+  pub pick : picked (wordsBefore S events stamp set) (groupCount set) ≡ some g
+  pub least : LeastWorn (wordsBefore S events stamp set) (groupCount set) g
+
 -- every commit that writes cell c levels, and ignored no mark
 abbrev pub OnlyLevelled : List Event → ℕ → Type 0
 OnlyLevelled events c = All (λ (x : Commit). writesCell (x .writes) c ≡ true → Levels x × (x .ignoring ≡ false)) (commits events)
+
+-- a write log counts as one write of a cell that it has, and as none of any other
+abbrev pub counted : List WriteEntry → ℕ → ℕ
+counted writes c = cond (writesCell writes c) 1 0
+
+-- how many of the stamps from 1 to b have a commit that writes cell c
+unfoldable pub timesWritten : List Commit → ℕ → ℕ → ℕ
+timesWritten L zero c = 0
+timesWritten L (suc b) c = timesWritten L b c + counted (logAt L (suc b)) c
+
+-- how many of the commits write cell c, whatever their stamps
+unfoldable pub writers : List Commit → ℕ → ℕ
+writers [] c = 0
+writers (x ∷ L) c = counted (x .writes) c + writers L c
 
 -- of a history from state S
 pub record CountsUp (S : State) (events : List Event) : Type 0 where
@@ -69,6 +95,14 @@ pub record CountsUp (S : State) (events : List Event) : Type 0 where
   pub countsUp :
       All (λ (x : Commit). (set : List ℕ) (g : ℕ) → LevelsWith set g (x .reads) (x .writes) → x .ignoring ≡ false
       → RaisesOne S events (x .stamp) (getD set (erasesPlace g) 0)) (commits events)
+  -- The group that it raises is the least worn one at its commit, and not only when its cells were read: whatever other tasks committed in between, the counts
+  -- that it was picked by are those that stand just before its stamp.
+  pub leastWorn :
+      All (λ (x : Commit). (set : List ℕ) (g : ℕ) → LevelsWith set g (x .reads) (x .writes) → x .ignoring ≡ false
+      → RightPick S events (x .stamp) set g) (commits events)
+  -- If every commit that writes a cell levels and ignored no mark, then the replay of that cell is at every stamp what the cell began with, and one more for each
+  -- commit up to there that wrote it: no erase is lost, and none is counted twice.
+  pub noneLost : (c : ℕ) → OnlyLevelled events c → (b : ℕ) → replay S events b c ≡ cellAt S c .word + timesWritten (commits events) b c
   -- If every commit that writes a cell levels and ignored no mark, then the replay of that cell never falls from one stamp to a later one.
   pub replayNeverFalls : (c : ℕ) → OnlyLevelled events c → (a b : ℕ) → a ≤ b → signed (replay S events a c) ≤ℤ signed (replay S events b c)
 
@@ -81,7 +115,21 @@ pub record NeverFalls (M : Model) : Type 0 where
       → OnlyLevelled (areaHistory M a (earlier ++ later)) c
       → signed (cellAt (stateOf M (bytesAfter M a earlier)) c .word) ≤ℤ signed (cellAt (stateOf M (bytesAfter M a (earlier ++ later))) c .word)
 
+-- of a history from state S to state T: what stands in the cells at its end
+pub record CountsAre (S : State) (events : List Event) (T : State) : Type 0 where
+  -- If every commit that writes a cell levels and ignored no mark, and no slot is just publishing to it, then the cell has the count that it began with and one
+  -- more for each commit that wrote it.
+  pub cellCounts : (c : ℕ) → c < cellCount T → publishes T (cellAt T c .holder) ≡ false → OnlyLevelled events c
+      → cellAt T c .word ≡ cellAt S c .word + timesWritten (commits events) (T .clock) c
+  -- Each commit of the history is among those counted, and once: the stamps up to the clock have them all, and no two of them have the same.
+  pub allCounted : (c : ℕ) → timesWritten (commits events) (T .clock) c ≡ writers (commits events) c
+
 -- from rest, for any calls
 pub record CountsUpFromRest (M : Model) : Type 0 where
   pub ofStates : (S : State) → stateAtRest M S ≡ true → (calls : List Call) → CountsUp S (history (step M) S calls)
   pub ofAreas : (a : List ℕ) → Bytes a → atRest M a ≡ true → (calls : List Call) → CountsUp (stateOf M a) (areaHistory M a calls)
+
+pub record CountsAreFromRest (M : Model) : Type 0 where
+  pub ofStates : (S : State) → stateAtRest M S ≡ true → (calls : List Call) → CountsAre S (history (step M) S calls) (final (step M) S calls)
+  pub ofAreas : (a : List ℕ) → Bytes a → atRest M a ≡ true → (calls : List Call)
+      → CountsAre (stateOf M a) (areaHistory M a calls) (stateOf M (bytesAfter M a calls))
