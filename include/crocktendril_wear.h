@@ -59,8 +59,10 @@ extern "C" {
  * and word are 0 but for DONE.
  *
  * 1, 32, 3 and 4 change no byte. 10 leaves the reads before it in the read log,
- * 33 and 34 leave all of them, and none of the three writes anything: give up,
- * and begin anew before the operation is tried again.
+ * 33 and 34 leave all of them, and none of the three writes anything: give up.
+ * After 10, begin anew and try again, a few times. After 33 trying again does
+ * not help: the count has been damaged. After 34 it helps only once a group has
+ * been made usable.
  */
 #define CROCKTENDRIL_CODE_BAD_SET 32
 #define CROCKTENDRIL_CODE_NEGATIVE_COUNT 33

@@ -57,17 +57,24 @@ static const char *const code_names[] = {
 /* Commits of all tasks. */
 static unsigned commits;
 
-static const char *code_name(unsigned code)
+/* A code's name, or its number if it has no name here. */
+static void print_code(unsigned code)
 {
     switch (code) {
     case CROCKTENDRIL_CODE_BAD_SET:
-        return "bad set";
+        printf("bad set");
+        break;
     case CROCKTENDRIL_CODE_NEGATIVE_COUNT:
-        return "negative count";
+        printf("negative count");
+        break;
     case CROCKTENDRIL_CODE_NONE_LEFT:
-        return "none left";
+        printf("none left");
+        break;
     default:
-        return code_names[code];
+        if (code < sizeof code_names / sizeof code_names[0])
+            printf("%s", code_names[code]);
+        else
+            printf("code %u", code);
     }
 }
 
@@ -78,15 +85,23 @@ static uint64_t make(const struct task *task, uint8_t step, uint8_t cell)
     return crocktendril_step(area, sizeof area, step, task->slot, cell, CROCKTENDRIL_KIND_NONE, 0);
 }
 
-/* Makes a step that takes its slot alone and answers its code, which is printed
-   if the step is not done. */
+/* Answers the code of a reply. It is printed if the step is not done. */
+static unsigned code_of(const struct task *task, const char *name, uint64_t reply)
+{
+    unsigned code = CROCKTENDRIL_REPLY_CODE(reply);
+
+    if (code != CROCKTENDRIL_CODE_DONE) {
+        printf("%-7s  %-6s  ", task->name, name);
+        print_code(code);
+        printf("\n");
+    }
+    return code;
+}
+
+/* Makes a step that takes its slot alone and answers its code. */
 static unsigned take(const struct task *task, uint8_t step, const char *name)
 {
-    unsigned code = CROCKTENDRIL_REPLY_CODE(make(task, step, 0));
-
-    if (code != CROCKTENDRIL_CODE_DONE)
-        printf("%-7s  %-6s  %s\n", task->name, name, code_name(code));
-    return code;
+    return code_of(task, name, make(task, step, 0));
 }
 
 static void print_answer(const struct task *task, uint64_t answer)
@@ -100,12 +115,21 @@ static void print_answer(const struct task *task, uint64_t answer)
         break;
     case CROCKTENDRIL_CODE_NOT_READABLE:
     case CROCKTENDRIL_CODE_NEGATIVE_COUNT:
-        printf("%s at place %u, the %s of group %u\n", code_name(code), place,
+        print_code(code);
+        printf(" at place %u, the %s of group %u\n", place,
                place % 2 == 0 ? "truth cell" : "erases", place / 2);
         break;
     default:
-        printf("%s\n", code_name(code));
+        print_code(code);
+        printf("\n");
     }
+}
+
+/* Drops the work for good: trying again would not help. */
+static uint8_t leave(struct task *task)
+{
+    task->wanted = 0;
+    return CROCKTENDRIL_STEP_GIVE_UP;
 }
 
 /* Picks a group. A refusal leaves reads in the log, so the task gives up before
@@ -120,14 +144,31 @@ static uint8_t wear(struct task *task)
         return CROCKTENDRIL_STEP_CLOSE;
     }
     if (CROCKTENDRIL_WEAR_CODE(answer) != CROCKTENDRIL_CODE_NOT_READABLE)
-        task->wanted = 0;
+        return leave(task);
     return CROCKTENDRIL_STEP_GIVE_UP;
 }
 
-static uint8_t enter(const struct task *task)
+/* Takes the one cell that is written. Held by another: once more at the next
+   turn. */
+static uint8_t lock(struct task *task)
+{
+    switch (take(task, CROCKTENDRIL_STEP_LOCK, "lock")) {
+    case CROCKTENDRIL_CODE_DONE:
+        return CROCKTENDRIL_STEP_ENTER;
+    case CROCKTENDRIL_CODE_HELD_BY_ANOTHER:
+        return CROCKTENDRIL_STEP_LOCK;
+    default:
+        return leave(task);
+    }
+}
+
+static uint8_t enter(struct task *task)
 {
     uint64_t reply = make(task, CROCKTENDRIL_STEP_ENTER, 0);
 
+    /* Without a stamp the word says nothing, and the last one may be given. */
+    if (code_of(task, "enter", reply) != CROCKTENDRIL_CODE_DONE)
+        return leave(task);
     /* It answers 0 if something that was read is out of date. */
     if (CROCKTENDRIL_REPLY_WORD(reply) == 0)
         printf("%-7s  enter   a cell that was read is out of date\n", task->name);
@@ -137,8 +178,14 @@ static uint8_t enter(const struct task *task)
 /* Commits. With a mark the transaction is aborted instead, and begins again. */
 static uint8_t finish(struct task *task)
 {
-    if (take(task, CROCKTENDRIL_STEP_FINISH, "finish") != CROCKTENDRIL_CODE_DONE)
+    switch (take(task, CROCKTENDRIL_STEP_FINISH, "finish")) {
+    case CROCKTENDRIL_CODE_DONE:
+        break;
+    case CROCKTENDRIL_CODE_ABORTED:
         return CROCKTENDRIL_STEP_BEGIN;
+    default:
+        return leave(task);
+    }
     printf("%-7s  finish  committed, group %u\n", task->name, task->group);
     task->wanted--;
     commits++;
@@ -158,10 +205,7 @@ static uint8_t turn(struct task *task)
         take(task, CROCKTENDRIL_STEP_CLOSE, "close");
         return CROCKTENDRIL_STEP_LOCK;
     case CROCKTENDRIL_STEP_LOCK:
-        /* One cell is written. Held by another: once more at the next turn. */
-        return take(task, CROCKTENDRIL_STEP_LOCK, "lock") == CROCKTENDRIL_CODE_DONE
-                   ? CROCKTENDRIL_STEP_ENTER
-                   : CROCKTENDRIL_STEP_LOCK;
+        return lock(task);
     case CROCKTENDRIL_STEP_ENTER:
         return enter(task);
     case CROCKTENDRIL_STEP_FINISH:

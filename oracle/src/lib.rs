@@ -39,6 +39,7 @@ pub mod wellformed;
 mod bytes;
 mod record;
 mod steps;
+mod wear_set;
 
 pub use area::{area_length, lay_out_on_bytes, step_on_bytes};
 pub use binary::{describe, BadSheet, Sheet};

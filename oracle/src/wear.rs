@@ -12,7 +12,7 @@ use crate::value::{Kind, Value};
 pub const GROUPS_AT_MOST: usize = 8;
 
 /// The kinds of a group's cells, in the order of the set.
-const KINDS: [Kind; 2] = [Kind::Truth, Kind::Whole];
+pub(crate) const KINDS: [Kind; 2] = [Kind::Truth, Kind::Whole];
 
 /// Why the wear task picks no group. A place is that of a cell in the set,
 /// from 0.
@@ -124,18 +124,6 @@ impl Machine {
         let more = Value::Whole(picked.erases + 1);
         self.core(Step::Write, slot, set, picked.erases_place(), more)?;
         Ok(picked.number)
-    }
-
-    /// Whether these cells describe 1 to 8 groups.
-    pub fn is_wear_set(&self, set: &[u8]) -> bool {
-        let whole_groups = set.len().is_multiple_of(KINDS.len());
-        let right_length =
-            whole_groups && (1..=GROUPS_AT_MOST).contains(&(set.len() / KINDS.len()));
-        let kind_of = |cell: u8| Some(self.cells.get(usize::from(cell))?.value.kind());
-        let mut with_kinds = set.iter().zip(KINDS.into_iter().cycle());
-        right_length
-            && with_kinds.all(|(cell, kind)| kind_of(*cell) == Some(kind))
-            && (1..set.len()).all(|place| !set[..place].contains(&set[place]))
     }
 
     /// Whether a slot from 1 to 8 has an open transaction with empty logs.

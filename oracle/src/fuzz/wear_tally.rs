@@ -4,18 +4,25 @@ use std::collections::BTreeMap;
 
 use super::tally::Count;
 use crate::inplace::view::{u32_at, CellBytes, CELL_WORD};
-use crate::machine::Transaction;
+use crate::machine::{Machine, Transaction};
 use crate::record::HEADER_LENGTH;
 use crate::wear::GROUPS_AT_MOST;
+use crate::wear_set::{reasons, REASON_COUNT};
 
 /// The codes that there are, in the order in which they are tested.
 const CODES: [(u8, u64); 8] =
     [(0, 2000), (1, 4000), (32, 2500), (3, 800), (4, 1500), (10, 4000), (33, 300), (34, 1000)];
 
+/// The least counts of bad sets, one for each reason.
+const BAD_SETS: [u64; REASON_COUNT] = [340, 170, 230, 250, 380, 330];
+
 /// Counts of the operations that were answered alike.
 #[derive(Clone, Debug, Default)]
 pub struct WearTally {
     codes: BTreeMap<u8, u64>,
+    /// Code 32 where no other reason applies, for each reason: a library that
+    /// misses the one is seen by nothing else.
+    bad_sets: BTreeMap<&'static str, u64>,
     /// Code 10 at each place of a set.
     refused_reads: [u64; Transaction::LOG_ROOM],
     /// Code 33 for each group.
@@ -39,6 +46,7 @@ impl WearTally {
         *self.codes.entry(code).or_default() += 1;
         match code {
             0 => self.note_pick(&groups_of(before, set), number as u32 as usize),
+            32 => self.note_bad_set(before, set),
             10 => self.refused_reads[place] += 1,
             33 => {
                 self.negatives[place / 2] += 1;
@@ -50,6 +58,15 @@ impl WearTally {
                 self.worn_out += u64::from(some_usable);
             }
             _ => {}
+        }
+    }
+
+    fn note_bad_set(&mut self, before: &[u8], set: &[u8]) {
+        // The area is well formed, or the code would be 1.
+        let machine = Machine::unpack(before);
+        let faults = machine.map_or_else(Vec::new, |machine| machine.wear_set_faults(set));
+        if let [only] = faults[..] {
+            *self.bad_sets.entry(only).or_default() += 1;
         }
     }
 
@@ -71,6 +88,10 @@ impl WearTally {
         for (code, least) in CODES {
             let count = self.codes.get(&code).copied().unwrap_or(0);
             counts.push((format!("wear code {code}"), count, least));
+        }
+        for (reason, least) in reasons().zip(BAD_SETS) {
+            let count = self.bad_sets.get(reason).copied().unwrap_or(0);
+            counts.push((format!("wear code 32 for this alone: {reason}"), count, least));
         }
         let rarest = |counts: &[u64]| counts.iter().copied().min().unwrap_or(0);
         let named = [

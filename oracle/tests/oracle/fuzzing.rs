@@ -58,7 +58,7 @@ macro_rules! slips {
 }
 
 /// The operation with each of the slips.
-const SLIPS: [(&str, Wear); 14] = slips!(
+const SLIPS: [(&str, Wear); 13] = slips!(
     HighestOnATie,
     PicksTheLastCount,
     PicksUnusable,
@@ -69,10 +69,19 @@ const SLIPS: [(&str, Wear); 14] = slips!(
     PlaceOfTheGroup,
     NegativeBeforeTheReads,
     SlotBeforeSet,
-    TakesNineGroups,
     LogsMayHaveEntries,
     DropsTheReads,
     WritesThoughNoneIsLeft
+);
+
+/// The operation with a set taken for good that is a bad one for one reason.
+const BAD_SETS_TAKEN: [(&str, Wear); 6] = slips!(
+    TakesNoByte,
+    TakesAnOddLength,
+    TakesNineGroups,
+    TakesACellNotBelowN,
+    TakesACellTwice,
+    TakesAWrongKind
 );
 
 const WRONG_WEARS: [(&str, Wear); 5] = [
@@ -205,6 +214,10 @@ fn a_run_that_reaches_little_is_told_so() {
     for code in [0, 1, 3, 4, 10, 32, 33, 34] {
         assert!(is_told(&format!("wear code {code}:")), "{code} in {short:?}");
     }
+    for reason in ["no byte", "an odd", "more than", "a cell not", "a cell twice", "a cell of"] {
+        let start = format!("wear code 32 for this alone: {reason}");
+        assert!(is_told(&start), "{start} in {short:?}");
+    }
     let more = ["wear code 10 at", "wear code 33 at", "wear code 33 for", "wear code 34 with"];
     let picks = ["picks of a", "picks of the", "picks on", "picks beside", "commits of tasks"];
     for start in more.into_iter().chain(picks) {
@@ -231,6 +244,16 @@ fn every_wrong_wear_task_is_caught() {
     for (name, wear) in SLIPS.into_iter().chain(WRONG_WEARS) {
         let failure = run(Library { wear, ..RIGHT }, 50_000).expect_err(name);
         println!("{name}: round {}", failure.round);
+    }
+}
+
+/// And at such a set, so not by chance at something else.
+#[test]
+fn every_bad_set_that_is_taken_is_caught() {
+    for (name, wear) in BAD_SETS_TAKEN {
+        let failure = run(Library { wear, ..RIGHT }, 50_000).expect_err(name);
+        println!("{name}: round {}", failure.round);
+        assert!(failure.report.contains("answer: wanted code 32, kind 0"), "{name}: {failure}");
     }
 }
 

@@ -19,7 +19,12 @@ pub enum Slip {
     PlaceOfTheGroup,
     NegativeBeforeTheReads,
     SlotBeforeSet,
+    TakesNoByte,
+    TakesAnOddLength,
     TakesNineGroups,
+    TakesACellNotBelowN,
+    TakesACellTwice,
+    TakesAWrongKind,
     LogsMayHaveEntries,
     DropsTheReads,
     WritesThoughNoneIsLeft,
@@ -56,15 +61,25 @@ pub fn wear(area: &mut [u8], set: &[u8], slot: u8, slip: Slip) -> u64 {
     level(area, set, slot, slip)
 }
 
+/// Each slip passes over one reason and over no other.
 fn set_is_good(peek: &Peek, set: &[u8], slip: Slip) -> bool {
-    let most = if slip == Slip::TakesNineGroups { 18 } else { 16 };
-    let cell_is_good = |place: usize| {
-        let cell = usize::from(set[place]);
-        let right_kind = if place.is_multiple_of(2) { 1 } else { 2 };
-        cell < peek.n() && peek.kind(cell) == right_kind && !set[..place].contains(&set[place])
-    };
     let length = set.len();
-    length > 0 && length <= most && length.is_multiple_of(2) && (0..length).all(cell_is_good)
+    let fewest = if slip == Slip::TakesNoByte { 0 } else { 1 };
+    let most = if slip == Slip::TakesNineGroups { 18 } else { 16 };
+    let whole_groups = length.is_multiple_of(2) || slip == Slip::TakesAnOddLength;
+    let right_length = whole_groups && length >= fewest && length <= most;
+    right_length && (0..length).all(|place| cell_is_good(peek, set, place, slip))
+}
+
+fn cell_is_good(peek: &Peek, set: &[u8], place: usize, slip: Slip) -> bool {
+    let cell = usize::from(set[place]);
+    let below_n = cell < peek.n();
+    let kind = if place.is_multiple_of(2) { 1 } else { 2 };
+    let right_kind = !below_n || peek.kind(cell) == kind;
+    let once = !set[..place].contains(&set[place]);
+    (below_n || slip == Slip::TakesACellNotBelowN)
+        && (once || slip == Slip::TakesACellTwice)
+        && (right_kind || slip == Slip::TakesAWrongKind)
 }
 
 fn level(area: &mut [u8], set: &[u8], slot: u8, slip: Slip) -> u64 {

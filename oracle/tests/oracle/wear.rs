@@ -302,6 +302,36 @@ fn a_bad_set_is_refused() {
 }
 
 #[test]
+fn each_reason_of_a_bad_set_is_told() {
+    let no_byte = "no byte";
+    let odd = "an odd number of bytes";
+    let long = "more than 16 bytes";
+    let not_below_n = "a cell not below n";
+    let twice = "a cell twice";
+    let kind = "a cell of the wrong kind";
+    let sets: [(&[u8], &[&str]); 13] = [
+        (&[], &[no_byte]),
+        (&[0, 1, 2], &[odd]),
+        (&set_of(9), &[long]),
+        (&set_of(9)[..17], &[odd, long]),
+        (&[0, 19], &[not_below_n]),
+        (&[0, 255, 2], &[odd, not_below_n]),
+        (&[19, 1, 19, 3], &[not_below_n, twice]),
+        (&[0, 1, 0, 3], &[twice]),
+        (&[0, 0], &[twice, kind]),
+        (&[1, 3], &[kind]),
+        (&[0, 18], &[kind]),
+        (&[0, 1], &[]),
+        (&set_of(8), &[]),
+    ];
+    let machine = nine_groups_and_a_real().machine;
+    for (set, reasons) in sets {
+        assert_eq!(machine.wear_set_faults(set), reasons, "{set:?}");
+        assert_eq!(machine.is_wear_set(set), reasons.is_empty(), "{set:?}");
+    }
+}
+
+#[test]
 fn eight_groups_are_a_good_set_and_so_is_one() {
     let bench = nine_groups_and_a_real();
     assert_eq!(wear(&mut bench.clone(), &set_of(8), 1), picked(0));
