@@ -74,7 +74,7 @@ judging M S slot set words none = writing M S slot set words (picked words (grou
 abbrev pub judged : Model → State → ℕ → List ℕ → List ℕ → Levelled
 judged M S slot set words = judging M S slot set words (negativeAt words (groupCount set))
 
--- "On a core code it passes that code on with the place in the set (from 0). Reads made before a refusal stay in the log."
+-- "On a core code it passes that code on with the place in the set (from 0). Reads made before a refusal stay in the log".
 abbrev pub levelling : Model → ℕ → List ℕ → Reading → Levelled
 levelling M slot set (stopped place reply S) =
     record { place = place; code = replyCode reply; kind = replyKind reply; word = replyWord reply; state = S }

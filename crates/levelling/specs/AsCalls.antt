@@ -1,4 +1,4 @@
--- "What the operation does is what a list of core calls does": the reads in order, then the write.
+-- What the operation does is what a list of core calls does: the reads in order, then the write.
 use mathlib.Core.Bool.{Bool, cond}
 use mathlib.Core.List.{List, [], _∷_, _++_, map}
 use mathlib.Core.Option.{Option, none, some}

@@ -76,7 +76,7 @@ pub record WearAtC : Type 0 where
   pub untouched : (l set : List ℕ) (slot r : ℕ) (l′ : List ℕ) → Bytes l → Worn l set slot r l′
       → (r / 2 ^ 40 % 2 ^ 8 ≡ 1) ⊎ (r / 2 ^ 40 % 2 ^ 8 ≡ 32) ⊎ (r / 2 ^ 40 % 2 ^ 8 ≡ 3) ⊎ (r / 2 ^ 40 % 2 ^ 8 ≡ 4) → l′ ≡ l
 
--- Steps and wear operations, in any mix, from an area at rest; one that was laid out is.
+-- Steps and wear operations, in any mix. From an area at rest, as one that was laid out is, where nothing else is said.
 pub record MixAtC : Type 0 where
   pub keepsWellFormed : (l : List ℕ) (made : List Made) → Bytes l → wellFormed controller l ≡ true → inTurn l made → wellFormed controller (lastLeft l made) ≡ true
   -- On an area that was laid out, and then only used by these two functions, neither of them ever answers code 1.

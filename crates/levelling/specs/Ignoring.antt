@@ -1,4 +1,4 @@
--- Why "ignored no mark" stands in the headline: a run in which every commit levels, one task ignores its mark, and the count falls. And the same three tasks done
+-- Why it is asked that no mark was ignored: a run in which every commit levels, one task ignores its mark, and the count falls. And the same three tasks done
 -- right, so that the headline's condition can be met when tasks meet.
 --
 -- One group: its truth cell is cell 0 (usable), its erases cell is cell 1, and it has been erased 5 times. Task 3 reads the count 5 and means to write 6. Before it commits,
@@ -81,7 +81,7 @@ commit stamp read mark written ignoring =
 abbrev pub AllLevel : List Event → Type 0
 AllLevel events = All (λ (x : Commit). LevelsWith itsSet 0 (x .reads) (x .writes)) (commits events)
 
--- what `NeverFalls` would say without "ignored no mark"
+-- what `NeverFalls` would say if it did not ask that no mark was ignored
 abbrev pub NeverFallsAnyway : Type 0
 NeverFallsAnyway =
     (S : State) → stateAtRest controller S ≡ true → (earlier later : List Call) (c : ℕ)
@@ -103,7 +103,7 @@ pub record Ignoring : Type 0 where
   -- The last publish lets the count fall from 7 to 6. The group has been erased three times more and says one.
   pub before : countAfter marksIgnored ≡ 7
   pub fallen : countAfter (marksIgnored ++ lastPublish) ≡ 6
-  -- So without "ignored no mark" the headline is false.
+  -- So without that premise the headline is false.
   pub needed : NeverFallsAnyway → ⊥
 
 -- Task 3 does not ignore it.
