@@ -34,39 +34,31 @@ write-comes l set words slot g d reply l′ good e did =
     let made = stepping l good call {reply = reply} {l′ = l′} (rw (e, add-one (getD words (2 * g + 1) 0)) at did) in
     record { answer = omega arith; bytes = good-kept l′ (made .good) ∙ ap (pack controller) (made .state) }
 
+-- the number that a search answers says what it found, where it finds nothing from `nothing` on
+found : (nothing k : ℕ) (o : Option ℕ) → k ≡ foundOr nothing o → k < nothing → o ≡ some k
+found nothing k none e h = absurd (omega arith)
+found nothing k (some p) e h = ap some (sym e)
+
+not-found : (nothing k : ℕ) (o : Option ℕ) → ((p : ℕ) → o ≡ some p → p < nothing) → k ≡ foundOr nothing o → nothing ≤ k → o ≡ none
+not-found nothing k none below e h = refl
+not-found nothing k (some p) below e h = let low = below p refl in absurd (omega arith)
+
 module _ (words : List ℕ) (groups : ℕ) where
-  -- the number that a search answers says what it found
+  -- the first negative count, or none
   found-place : (place : ℕ) → place ≡ negativePlace words groups → place < 2 * groups → negativeAt words groups ≡ some place
-  found-place place e h = by (negativeAt words groups) e
-    where
-      by : (o : Option ℕ) → place ≡ foundOr (2 * groups) o → o ≡ some place
-      by none q = absurd (omega arith)
-      by (some p) q = ap some (sym q)
+  found-place place = found (2 * groups) place (negativeAt words groups)
 
   found-none : (place : ℕ) → place ≡ negativePlace words groups → 2 * groups ≤ place → negativeAt words groups ≡ none
-  found-none place e h = by (negativeAt words groups) refl e
-    where
-      by : (o : Option ℕ) → negativeAt words groups ≡ o → place ≡ foundOr (2 * groups) o → o ≡ none
-      by none s q = refl
-      by (some p) s q =
-          let first = picks-right .first words groups p s in
-          let inside = first .1 in
-          let there = first .2 in
-          absurd (omega arith)
+  found-none place =
+      not-found (2 * groups) place (negativeAt words groups)
+      (λ p e. let first = picks-right .first words groups p e in let inside = first .1 .inside in let there = first .2 in omega arith)
 
+  -- the picked group, or none
   pub found-group : (g : ℕ) → g ≡ pickedGroup words groups → g < groups → picked words groups ≡ some g
-  found-group g e h = by (picked words groups) e
-    where
-      by : (o : Option ℕ) → g ≡ foundOr groups o → o ≡ some g
-      by none q = absurd (omega arith)
-      by (some p) q = ap some (sym q)
+  found-group g = found groups g (picked words groups)
 
   no-group : (g : ℕ) → g ≡ pickedGroup words groups → groups ≤ g → picked words groups ≡ none
-  no-group g e h = by (picked words groups) refl e
-    where
-      by : (o : Option ℕ) → picked words groups ≡ o → g ≡ foundOr groups o → o ≡ none
-      by none s q = refl
-      by (some p) s q = let inside = picks-right .pick words groups p s .inside in absurd (omega arith)
+  no-group g = not-found groups g (picked words groups) (λ p e. picks-right .pick words groups p e .inside)
 
   -- the count of the group that is picked can be raised
   pub picked-below : (g : ℕ) → g ≡ pickedGroup words groups → g < groups → erases words g < lastCount

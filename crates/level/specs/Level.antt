@@ -54,7 +54,7 @@ pub record Levelled : Type 0 where
 abbrev pub refusing : ℕ → ℕ → State → Levelled
 refusing place code S = record { place = place; code = code; kind = 0; word = 0; state = S }
 
--- The picked group's count plus one is written, and its number answered. The core does not refuse this write (`written` of `Leaves`, crate `levelling`). 34: none left
+-- The picked group's count plus one is written, and its number answered. The core does not refuse this write (`written` of `Left`, crate `levelling`). 34: none left
 abbrev pub writing : Model → State → ℕ → List ℕ → List ℕ → Option ℕ → Levelled
 writing M S slot set words none = refusing 0 34 S
 writing M S slot set words (some g) =

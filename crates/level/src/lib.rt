@@ -77,7 +77,7 @@ fn read_all(s: &mut [u8], slot: u8, set: &[u8], words: &mut [u32]) -> u64
 }
 
 // Writes the count of the group plus one, and answers the group's number. The core can't refuse the write: the slot is open, its write log empty, the cell of kind 2 and the count
-// below the last one (`written` of `Leaves`, crate `levelling`).
+// below the last one (`written` of `Left`, crate `levelling`).
 fn write_count(s: &mut [u8], slot: u8, set: &[u8], words: &[u32], g: usize) -> u64
     requires { ⌜ Good (now s) × (length (now set) ≤ 16) × (length (now words) ≡ 16) × (2 * g + 1 < length (now set)) ⌝ }
     requires { ⌜ erases (now words) g < lastCount ⌝ }

@@ -29,7 +29,7 @@ use Rattle.levelling.specs.AsCalls.{admitted}
 use Rattle.levelling.specs.AtC.{WearAtC}
 use Rattle.levelling.proofs.Cases.{wear-case}
 use Rattle.levelling.proofs.ReadLaws.{is-begun}
-use Rattle.levelling.proofs.Leaves.{leaves}
+use Rattle.levelling.proofs.Leaves.{refused-ten}
 
 -- the codes that come before the first read
 abbrev Early : ℕ → Type 0
@@ -87,7 +87,7 @@ module _ (M : Model) (S : State) (set : List ℕ) (slot : ℕ) (right : stateRig
     reads-fit : (r : Reading) → readFirst M S slot set (length set) ≡ r → Fits S (levelling M slot set r)
     reads-fit (going words T) e = judge-fits words T (negativeAt words (groupCount set))
     reads-fit (stopped place reply T) e =
-        let ten = leaves M .refusedRead S set slot place reply T right adm e .0 in
+        let ten = refused-ten M S set slot right adm place reply T e in
         let bare = refusal-bare reply (omega arith) in
         let kind = bare .0 in
         let word = bare .1 in

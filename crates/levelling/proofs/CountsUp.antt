@@ -15,7 +15,7 @@ use Rattle.slot.specs.Logic.{any, first, pairwise, All}
 use Rattle.slot.specs.Logs.{writeEntry, writesCell}
 use Rattle.slot.proofs.Logic.{and-left, and-right, or-false}
 use Rattle.rules.specs.Model.{Model, FitsBytes}
-use Rattle.rules.specs.State.{State, cellAt}
+use Rattle.rules.specs.State.{State}
 use Rattle.history.specs.History.{Event, Commit, commits, logAt, replay, Demand3}
 use Rattle.history.proofs.Keeps.Lists.{cond-elim, same-or-not}
 use Rattle.history.proofs.Invariant.{All-map, All-both, all-each}
@@ -26,7 +26,7 @@ use Rattle.pick.proofs.PicksRight.{picks-right}
 use Rattle.wearset.specs.WearSet.{groupCount}
 use Rattle.levelling.specs.CountsUp.{wordsRead, LevelsWith, signed, RaisesOne, RightPick, OnlyLevelled, CountsUp, CountsAre, CountsUpFromRest, CountsAreFromRest}
 use Rattle.levelling.proofs.RightPick.{set-word, right-pick}
-use Rattle.levelling.proofs.NoneLost.{none-lost, all-counted}
+use Rattle.levelling.proofs.NoneLost.{stays-at, none-lost, all-counted}
 use Rattle.levelling.proofs.SignedWords.{signed-next, signed-rises, ≤ℤ-trans}
 
 -- where stamps are apart, the log of each commit's stamp is its own
@@ -124,9 +124,7 @@ module _ {S : State} {events : List Event} {T : State} (holds : Demand3 S events
       where
         by : (t : Bool) → writesCell (logAt (commits events) (suc k)) c ≡ t → signed (replay S events k c) ≤ℤ signed (replay S events (suc k) c)
         by true w = let raise = raised-at (suc k) w in rw (raise .raised) (signed-rises _ (raise .below))
-        by false w =
-            rw (quiet (logAt (commits events)) (λ d. cellAt S d .word) k (suc k) c (omega arith)
-            (λ j above last. let same : j ≡ suc k = omega arith in rw same w)) (≤ℤ-refl _)
+        by false w = rw (stays-at S events c k w) (≤ℤ-refl _)
 
     -- .. and to any later one
     replay-rises : (a b : ℕ) → a ≤ b → signed (replay S events a c) ≤ℤ signed (replay S events b c)

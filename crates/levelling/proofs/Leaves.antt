@@ -1,7 +1,7 @@
 -- What the reads give, and what the operation leaves in the logs: by induction over the set's cells, one read after the other.
 use mathlib.Core.Bool.{Bool, true, false, cond}
 use mathlib.Core.List.{List, [], _∷_, _++_}
-use mathlib.Core.Logic.{_⊎_, inl, inr}
+use mathlib.Core.Logic.{inl, inr}
 use mathlib.Core.Option.{Option, none, some}
 use mathlib.Core.Path.{_≡_, refl, sym, _∙_, ap, subst}
 use Prim.Native.Nat.{ℕ, zero, suc, pred, _^_, _<_, _≤_}
@@ -13,6 +13,7 @@ use lib.ListN.{length, getD, take}
 use lib.Seq.{take-length}
 use Rattle.value.specs.Legal.{legalWord}
 use Rattle.value.proofs.RoundTrip.{word-back}
+use Rattle.call.specs.declared.Reply.{Reply}
 use Rattle.call.specs.declared.Reply.the-variants.{ReadHeld, ReadNewer}
 use Rattle.call.specs.Answer.{replyCode, replyWord}
 use Rattle.call.proofs.Answer.{refusal-bare}
@@ -28,10 +29,10 @@ use Rattle.pick.specs.Groups.{erasesPlace, erases}
 use Rattle.pick.specs.Pick.{negativeAt, picked}
 use Rattle.pick.proofs.PicksRight.{picks-right}
 use Rattle.wearset.specs.WearSet.{groupCount}
-use Rattle.level.specs.Level.{Reading, going, stopped, readAt, readFirst, Levelled, writing, judging, levelling}
+use Rattle.level.specs.Level.{Reading, going, stopped, readAt, readFirst, writing, judging, levelling}
 use Rattle.wear.specs.Wear.{wear}
 use Rattle.levelling.specs.AsCalls.{admitted}
-use Rattle.levelling.specs.Leaves.{wordsOf, withLogs, inTheWay, Leaves}
+use Rattle.levelling.specs.Leaves.{Left, wordsOf, withLogs, inTheWay, Leaves}
 use Rattle.levelling.proofs.Cases.{begins}
 use Rattle.levelling.proofs.ReadLaws.{Begun, is-begun, count-write, slot-with, logs-anew, no-logs, map-next, read-next}
 
@@ -49,18 +50,6 @@ module _ (S : State) (set : List ℕ) (slot : ℕ) where
   -- the entry of the picked group's write
   abbrev raised : ℕ → WriteEntry
   raised g = record { cell = getD set (erasesPlace g) 0; word = suc (erases (wordsOf S set) g) }
-
-  -- what an operation that has begun comes to
-  record Ended (w : Levelled) : Type 0 where
-    codes : (w .code ≡ 0) ⊎ (w .code ≡ 10) ⊎ (w .code ≡ 33) ⊎ (w .code ≡ 34)
-    conflicts : w .code ≡ 10
-        → (w .kind ≡ 0) × (w .word ≡ 0) × (w .place < length set) × (inTheWay S slot (getD set (w .place) 0) ≡ true) × Clear (w .place)
-        × (w .state ≡ withLogs S slot (take (w .place) set) [])
-    unwritten : 33 ≤ w .code → w .state ≡ withLogs S slot set []
-    written : w .code ≡ 0
-        → (picked (wordsOf S set) (groupCount set) ≡ some (w .word))
-        × (negativeAt (wordsOf S set) (groupCount set) ≡ none)
-        × (w .state ≡ withLogs S slot set (raised (w .word) ∷ []))
 
   -- how far the reads have come with a step's outcome
   abbrev onward : ℕ → List ℕ → State → Outcome → Reading
@@ -124,7 +113,7 @@ module _ (M : Model) (S : State) (set : List ℕ) (slot : ℕ) (b : Begun M S se
 
   -- by what is picked: 34, or the write
   write-ended : (o : Option ℕ) → negativeAt (wordsOf S set) (groupCount set) ≡ none → picked (wordsOf S set) (groupCount set) ≡ o
-      → Ended S set slot (writing M (withLogs S slot set []) slot set (wordsOf S set) o)
+      → Left S set slot (writing M (withLogs S slot set []) slot set (wordsOf S set) o)
   write-ended none sound p =
       record { codes = inr (inr (inr refl)); conflicts = λ e. absurd (omega arith); unwritten = λ e. refl; written = λ e. absurd (omega arith) }
   write-ended (some g) sound p =
@@ -132,13 +121,13 @@ module _ (M : Model) (S : State) (set : List ℕ) (slot : ℕ) (b : Begun M S se
 
   -- by the signs: 33, or what is picked
   judge-ended : (o : Option ℕ) → negativeAt (wordsOf S set) (groupCount set) ≡ o
-      → Ended S set slot (judging M (withLogs S slot set []) slot set (wordsOf S set) o)
+      → Left S set slot (judging M (withLogs S slot set []) slot set (wordsOf S set) o)
   judge-ended none sound = write-ended (picked (wordsOf S set) (groupCount set)) sound refl
   judge-ended (some place) e =
       record { codes = inr (inr (inl refl)); conflicts = λ d. absurd (omega arith); unwritten = λ d. refl; written = λ d. absurd (omega arith) }
 
   -- by the reads: 10, or what the signs say
-  reads-ended : (r : Reading) → SoFar S set slot (length set) r → Ended S set slot (levelling M slot set r)
+  reads-ended : (r : Reading) → SoFar S set slot (length set) r → Left S set slot (levelling M slot set r)
   reads-ended (stopped place reply T) so =
       let ten = so .0 in
       let bare = refusal-bare reply (omega arith) in
@@ -155,10 +144,14 @@ module _ (M : Model) (S : State) (set : List ℕ) (slot : ℕ) (right : stateRig
   all-read : SoFar S set slot (length set) (readFirst M S slot set (length set))
   all-read = so-far M S set slot (is-begun M S set slot right adm) (length set) (omega arith)
 
+  -- a read is refused with code 10 alone
+  pub refused-ten : (place : ℕ) (reply : Reply) (T : State) → readFirst M S slot set (length set) ≡ stopped place reply T → replyCode reply ≡ 10
+  refused-ten place reply T e = subst (SoFar S set slot (length set)) e all-read .0
+
   -- .. and what the operation comes to then
-  ended : Ended S set slot (wear M S set slot)
+  ended : Left S set slot (wear M S set slot)
   ended =
-      subst (Ended S set slot) (sym (begins M S set slot adm))
+      subst (Left S set slot) (sym (begins M S set slot adm))
       (reads-ended M S set slot (is-begun M S set slot right adm) (readFirst M S slot set (length set)) all-read)
 
 -- What the operation leaves.
@@ -168,9 +161,5 @@ leaves M =
       allRead = λ S set slot words T right adm e.
           let so = subst (SoFar S set slot (length set)) e (all-read M S set slot right adm) in
           (rw (take-length set) at (so .0), rw (take-length set) at (so .1), so .2);
-      refusedRead = λ S set slot place reply T right adm e. subst (SoFar S set slot (length set)) e (all-read M S set slot right adm);
-      written = λ S set slot right adm. ended M S set slot right adm .written;
-      codes = λ S set slot right adm. ended M S set slot right adm .codes;
-      conflicts = λ S set slot right adm. ended M S set slot right adm .conflicts;
-      unwritten = λ S set slot right adm. ended M S set slot right adm .unwritten;
+      operation = ended M;
     }

@@ -47,7 +47,7 @@ module _ (M : Model) (S : State) (set : List ℕ) (slot : ℕ) (right : stateRig
 
   levels : SlotLevels set (wear M S set slot .word) (slotAt (wear M S set slot .state) (pred slot))
   levels =
-      let left = leaves M .written S set slot right adm ok in
+      let left = leaves M .operation S set slot right adm .written ok in
       let there = ap (λ (T : State). slotAt T (pred slot)) (left .2) ∙ slot-with M S set slot (is-begun M S set slot right adm) set _ in
       subst (SlotLevels set (wear M S set slot .word)) (sym there)
       (record {

@@ -17,6 +17,13 @@ use Rattle.history.proofs.Invariant.{all-each}
 use Rattle.history.proofs.Replay.{quiet}
 use Rattle.levelling.specs.CountsUp.{RaisesOne, counted, timesWritten, writers}
 
+-- a stamp that does not write the cell leaves its word
+pub stays-at : (S : State) (events : List Event) (c k : ℕ) → writesCell (logAt (commits events) (suc k)) c ≡ false
+    → replay S events (suc k) c ≡ replay S events k c
+stays-at S events c k w =
+    quiet (logAt (commits events)) (λ d. cellAt S d .word) k (suc k) c (omega arith)
+    (λ j above last. let same : j ≡ suc k = omega arith in rw same w)
+
 module _ (S : State) (events : List Event) (c : ℕ) (raises : (k : ℕ) → writesCell (logAt (commits events) k) c ≡ true → RaisesOne S events k c) where
   -- a stamp that writes the cell counts as one, any other as none
   next-count : (b : ℕ) → replay S events (suc b) c ≡ replay S events b c + counted (logAt (commits events) (suc b)) c
@@ -24,10 +31,7 @@ module _ (S : State) (events : List Event) (c : ℕ) (raises : (k : ℕ) → wri
     where
       by : (t : Bool) → writesCell (logAt (commits events) (suc b)) c ≡ t → replay S events (suc b) c ≡ replay S events b c + counted (logAt (commits events) (suc b)) c
       by true w = let raised = raises (suc b) w .raised in rw w (omega arith)
-      by false w =
-          let kept = quiet (logAt (commits events)) (λ d. cellAt S d .word) b (suc b) c (omega arith)
-          (λ j above last. let same : j ≡ suc b = omega arith in rw same w) in
-          rw w (omega arith)
+      by false w = let kept = stays-at S events c b w in rw w (omega arith)
 
   -- .. so up to any stamp
   pub none-lost : (b : ℕ) → replay S events b c ≡ cellAt S c .word + timesWritten (commits events) b c

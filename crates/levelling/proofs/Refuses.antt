@@ -10,21 +10,22 @@ use Rattle.rules.specs.Model.{Model}
 use Rattle.rules.specs.State.{State}
 use Rattle.pick.specs.Groups.{erasesPlace, erases, negative}
 use Rattle.pick.specs.Pick.{negativeAt, picked}
-use Rattle.pick.specs.PicksRight.{NoneLeft, LeastWorn}
+use Rattle.pick.specs.PicksRight.{NoneLeft, LeastWorn, FirstNegative}
 use Rattle.pick.proofs.PicksRight.{picks-right}
 use Rattle.wearset.specs.WearSet.{groupCount}
 use Rattle.level.specs.Level.{Levelled, writing, judging, levelling}
 use Rattle.wear.specs.Wear.{wear}
-use Rattle.levelling.specs.Refuses.{SoundRead, RefusesExactly, AllRead, FirstNegative, NegativeExactly}
+use Rattle.levelling.specs.Refuses.{SoundRead, RefusesExactly, AllRead, NegativeExactly}
 use Rattle.levelling.proofs.Cases.{begins}
 
 module _ (M : Model) (S : State) (set : List ℕ) (slot : ℕ) (words : List ℕ) (T : State) where
-  -- what it comes to is settled by what is picked
+  -- what it comes to is settled by the signs ..
+  judged-as : AllRead M S set slot words T → wear M S set slot ≡ judging M T slot set words (negativeAt words (groupCount set))
+  judged-as p = begins M S set slot (p .begun) ∙ ap (levelling M slot set) (p .words-are)
+
+  -- .. and by what is picked
   comes-to : SoundRead M S set slot words T → wear M S set slot ≡ writing M T slot set words (picked words (groupCount set))
-  comes-to p =
-      begins M S set slot (p .begun)
-      ∙ ap (levelling M slot set) (p .allRead)
-      ∙ ap (judging M T slot set words) (picks-right .all-sound words (groupCount set) (p .sound))
+  comes-to p = judged-as (p .all-read) ∙ ap (judging M T slot set words) (picks-right .all-sound words (groupCount set) (p .sound))
 
   -- what is answered, by what is picked
   abbrev Answers : Levelled → Type 0
@@ -52,10 +53,6 @@ refuses-exactly M =
     }
 
 module _ (M : Model) (S : State) (set : List ℕ) (slot : ℕ) (words : List ℕ) (T : State) where
-  -- what it comes to is settled by the signs
-  judged-as : AllRead M S set slot words T → wear M S set slot ≡ judging M T slot set words (negativeAt words (groupCount set))
-  judged-as p = begins M S set slot (p .begun) ∙ ap (levelling M slot set) (p .allRead)
-
   -- 33 comes if and only if a negative count is found
   abbrev Signs : Levelled → Type 0
   Signs w =
@@ -74,10 +71,10 @@ module _ (M : Model) (S : State) (set : List ℕ) (slot : ℕ) (words : List ℕ
   )
   by-sign (some place) e =
       let found = picks-right .first words (groupCount set) place e in
-      (λ g h below. refl, λ refused. (found .0, record { inside = found .1; isNegative = found .3; earlier = found .4 }, found .2))
+      (λ g h below. refl, λ refused. found)
 
   signs : AllRead M S set slot words T → Signs (wear M S set slot)
-  signs p = subst Signs (sym (judged-as p)) (by-sign (negativeAt words (groupCount set)) refl)
+  signs p = subst Signs (sym (judged-as M S set slot words T p)) (by-sign (negativeAt words (groupCount set)) refl)
 
 -- It gives 33 exactly if a count is negative, at the first one's place.
 pub negative-exactly : (M : Model) → NegativeExactly M

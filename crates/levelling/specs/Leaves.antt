@@ -6,8 +6,6 @@ use mathlib.Core.Option.{none, some}
 use mathlib.Core.Path.{_≡_}
 use Prim.Native.Nat.{ℕ, suc, pred, _<_, _≤_}
 use lib.ListN.{length, getD, take}
-use Rattle.call.specs.declared.Reply.{Reply}
-use Rattle.call.specs.Answer.{replyCode}
 use Rattle.slot.specs.declared.ReadEntry.{ReadEntry}
 use Rattle.slot.specs.declared.WriteEntry.{WriteEntry}
 use Rattle.slot.specs.Logic.{_or_}
@@ -18,7 +16,7 @@ use Rattle.rules.specs.Cells.{heldByOther, newer}
 use Rattle.pick.specs.Groups.{erasesPlace, erases}
 use Rattle.pick.specs.Pick.{negativeAt, picked}
 use Rattle.wearset.specs.WearSet.{groupCount}
-use Rattle.level.specs.Level.{going, stopped, readFirst}
+use Rattle.level.specs.Level.{going, readFirst, Levelled}
 use Rattle.wear.specs.Wear.{wear}
 use Rattle.levelling.specs.AsCalls.{admitted}
 
@@ -38,39 +36,31 @@ withLogs S slot cells writes =
 abbrev pub inTheWay : State → ℕ → ℕ → Bool
 inTheWay S slot c = heldByOther (pred slot) (cellAt S c) or newer (startOf (slotAt S (pred slot))) (cellAt S c)
 
-pub record Leaves (M : Model) : Type 0 where
-  -- All cells are read: none is in the way, the words are the shared cells', every cell is in the read log, and nothing is written.
-  pub allRead : (S : State) (set : List ℕ) (slot : ℕ) (words : List ℕ) (T : State) → stateRight M S ≡ true → admitted M S set slot ≡ true
-      → readFirst M S slot set (length set) ≡ going words T
-      → (words ≡ wordsOf S set) × (T ≡ withLogs S slot set []) × ((place : ℕ) → place < length set → inTheWay S slot (getD set place 0) ≡ false)
-  -- A read is refused: its code is 10, at the first cell of the set that can't be read, and the reads before it stay in the log.
-  pub refusedRead : (S : State) (set : List ℕ) (slot place : ℕ) (reply : Reply) (T : State) → stateRight M S ≡ true → admitted M S set slot ≡ true
-      → readFirst M S slot set (length set) ≡ stopped place reply T
-      → (replyCode reply ≡ 10)
-      × (place < length set)
-      × (inTheWay S slot (getD set place 0) ≡ true)
-      × ((earlier : ℕ) → earlier < place → inTheWay S slot (getD set earlier 0) ≡ false)
-      × (T ≡ withLogs S slot (take place set) [])
-  -- A group is picked: its write is done. The log has the one entry.
-  pub written : (S : State) (set : List ℕ) (slot : ℕ) → stateRight M S ≡ true → admitted M S set slot ≡ true → wear M S set slot .code ≡ 0
-      → let g = wear M S set slot .word in
-      (picked (wordsOf S set) (groupCount set) ≡ some g)
-      × (negativeAt (wordsOf S set) (groupCount set) ≡ none)
-      × (wear M S set slot .state
-      ≡ withLogs S slot set (record { cell = getD set (erasesPlace g) 0; word = suc (erases (wordsOf S set) g) } ∷ []))
-  -- Of what it answers once it has begun: 10 is the only core code that can come.
-  pub codes : (S : State) (set : List ℕ) (slot : ℕ) → stateRight M S ≡ true → admitted M S set slot ≡ true
-      → let code = wear M S set slot .code in
-      (code ≡ 0) ⊎ (code ≡ 10) ⊎ (code ≡ 33) ⊎ (code ≡ 34)
-  -- It comes with kind and word 0, at the first cell that can't be read, and leaves the reads before it in the log ..
-  pub conflicts : (S : State) (set : List ℕ) (slot : ℕ) → stateRight M S ≡ true → admitted M S set slot ≡ true → wear M S set slot .code ≡ 10
-      → let w = wear M S set slot in
-      (w .kind ≡ 0)
+-- What an operation w that has begun comes to.
+pub record Left (S : State) (set : List ℕ) (slot : ℕ) (w : Levelled) : Type 0 where
+  -- 10 is the only core code that can come.
+  pub codes : (w .code ≡ 0) ⊎ (w .code ≡ 10) ⊎ (w .code ≡ 33) ⊎ (w .code ≡ 34)
+  -- It comes with kind and word 0, at the first cell of the set that can't be read, and leaves the reads before it in the log ..
+  pub conflicts : w .code ≡ 10
+      → (w .kind ≡ 0)
       × (w .word ≡ 0)
       × (w .place < length set)
       × (inTheWay S slot (getD set (w .place) 0) ≡ true)
       × ((earlier : ℕ) → earlier < w .place → inTheWay S slot (getD set earlier 0) ≡ false)
       × (w .state ≡ withLogs S slot (take (w .place) set) [])
   -- .. and 33 and 34 leave all of them, and nothing written.
-  pub unwritten : (S : State) (set : List ℕ) (slot : ℕ) → stateRight M S ≡ true → admitted M S set slot ≡ true → 33 ≤ wear M S set slot .code
-      → wear M S set slot .state ≡ withLogs S slot set []
+  pub unwritten : 33 ≤ w .code → w .state ≡ withLogs S slot set []
+  -- A group is picked: its write is done. The log has the one entry.
+  pub written : w .code ≡ 0
+      → (picked (wordsOf S set) (groupCount set) ≡ some (w .word))
+      × (negativeAt (wordsOf S set) (groupCount set) ≡ none)
+      × (w .state
+      ≡ withLogs S slot set (record { cell = getD set (erasesPlace (w .word)) 0; word = suc (erases (wordsOf S set) (w .word)) } ∷ []))
+
+pub record Leaves (M : Model) : Type 0 where
+  -- All cells are read: none is in the way, the words are the shared cells', every cell is in the read log, and nothing is written.
+  pub allRead : (S : State) (set : List ℕ) (slot : ℕ) (words : List ℕ) (T : State) → stateRight M S ≡ true → admitted M S set slot ≡ true
+      → readFirst M S slot set (length set) ≡ going words T
+      → (words ≡ wordsOf S set) × (T ≡ withLogs S slot set []) × ((place : ℕ) → place < length set → inTheWay S slot (getD set place 0) ≡ false)
+  -- the operation, once it has begun
+  pub operation : (S : State) (set : List ℕ) (slot : ℕ) → stateRight M S ≡ true → admitted M S set slot ≡ true → Left S set slot (wear M S set slot)

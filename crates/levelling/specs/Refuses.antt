@@ -7,16 +7,20 @@ use lib.ListN.{length}
 use Rattle.rules.specs.Model.{Model}
 use Rattle.rules.specs.State.{State}
 use Rattle.pick.specs.Groups.{erasesPlace, erases, negative}
-use Rattle.pick.specs.PicksRight.{NoneLeft, LeastWorn}
+use Rattle.pick.specs.PicksRight.{NoneLeft, LeastWorn, FirstNegative}
 use Rattle.wearset.specs.WearSet.{groupCount}
 use Rattle.level.specs.Level.{going, readFirst}
 use Rattle.wear.specs.Wear.{wear}
 use Rattle.levelling.specs.AsCalls.{admitted}
 
--- all cells of the set are read, with these words and this state after them, and no count is negative
-pub record SoundRead (M : Model) (S : State) (set : List ℕ) (slot : ℕ) (words : List ℕ) (T : State) : Type 0 where
+-- all cells of the set are read, with these words and this state after them ..
+pub record AllRead (M : Model) (S : State) (set : List ℕ) (slot : ℕ) (words : List ℕ) (T : State) : Type 0 where
   pub begun : admitted M S set slot ≡ true
-  pub allRead : readFirst M S slot set (length set) ≡ going words T
+  pub words-are : readFirst M S slot set (length set) ≡ going words T
+
+-- .. and no count is negative
+pub record SoundRead (M : Model) (S : State) (set : List ℕ) (slot : ℕ) (words : List ℕ) (T : State) : Type 0 where
+  pub all-read : AllRead M S set slot words T
   pub sound : (g : ℕ) → g < groupCount set → negative (erases words g) ≡ false
 
 pub record RefusesExactly (M : Model) : Type 0 where
@@ -28,17 +32,6 @@ pub record RefusesExactly (M : Model) : Type 0 where
   -- .. else it picks a usable group with the fewest erases, the lowest on a tie.
   pub picks : (S : State) (set : List ℕ) (slot : ℕ) (words : List ℕ) (T : State) → SoundRead M S set slot words T
       → (wear M S set slot .code ≡ 34 → ⊥) → (wear M S set slot .code ≡ 0) × LeastWorn words (groupCount set) (wear M S set slot .word)
-
--- .. and of the counts' signs: all cells of the set are read, with these words and this state after them
-pub record AllRead (M : Model) (S : State) (set : List ℕ) (slot : ℕ) (words : List ℕ) (T : State) : Type 0 where
-  pub begun : admitted M S set slot ≡ true
-  pub allRead : readFirst M S slot set (length set) ≡ going words T
-
--- group g is the first of the n whose count is negative, usable or not
-pub record FirstNegative (words : List ℕ) (n g : ℕ) : Type 0 where
-  pub inside : g < n
-  pub isNegative : negative (erases words g) ≡ true
-  pub earlier : (h : ℕ) → h < g → negative (erases words h) ≡ false
 
 pub record NegativeExactly (M : Model) : Type 0 where
   -- 33 exactly if a count is negative ..

@@ -12,7 +12,7 @@ use Rattle.slot.specs.Logic.{_and_}
 use Rattle.slot.proofs.Logic.{and-intro, and-left, and-right}
 use Rattle.pick.specs.Groups.{erasesPlace, usable, erases, negative, lastCount}
 use Rattle.pick.specs.Pick.{orElse, negativeAt, pickable, better, picked}
-use Rattle.pick.specs.PicksRight.{NoneLeft, LeastWorn, PicksRight}
+use Rattle.pick.specs.PicksRight.{NoneLeft, LeastWorn, FirstNegative, PicksRight}
 
 module _ (words : List ℕ) where
   -- a group that can be picked
@@ -112,21 +112,21 @@ module _ (words : List ℕ) where
   none-is n left none q = refl
   none-is n left (some g) q = absurd (left g (q .inside) (q .isUsable) (q .below))
 
-  -- the first negative count of the first n groups
-  abbrev First : ℕ → ℕ → Type 0
-  First n p = (g : ℕ) × (g < n) × (p ≡ erasesPlace g) × (negative (erases words g) ≡ true) × ((h : ℕ) → h < g → negative (erases words h) ≡ false)
-
+  -- what the search for a negative count says once it has seen n groups
   abbrev Sign : ℕ → Option ℕ → Type 0
   Sign n none = (g : ℕ) → g < n → negative (erases words g) ≡ false
-  Sign n (some p) = First n p
+  Sign n (some p) = (g : ℕ) × FirstNegative words n g × (p ≡ erasesPlace g)
 
   sign-next : (n : ℕ) (o : Option ℕ) → Sign n o → Sign (suc n) (orElse o (cond (negative (erases words n)) (some (erasesPlace n)) none))
   sign-next n none sound = by (negative (erases words n)) refl
     where
       by : (b : Bool) → negative (erases words n) ≡ b → Sign (suc n) (cond b (some (erasesPlace n)) none)
-      by true e = (n, omega arith, refl, e, sound)
+      by true e = (n, record { inside = omega arith; isNegative = e; earlier = sound }, refl)
       by false e = one-more (λ g. negative (erases words g) ≡ false) n sound e
-  sign-next n (some p) first = let inside = first .1 in (first .0, omega arith, first .2, first .3, first .4)
+  sign-next n (some p) first =
+      let here = first .1 in
+      let inside = here .inside in
+      (first .0, record { inside = omega arith; isNegative = here .isNegative; earlier = here .earlier }, first .2)
 
   signs : (n : ℕ) → Sign n (negativeAt words n)
   unfolding negativeAt
@@ -135,7 +135,7 @@ module _ (words : List ℕ) where
 
   sound-is : (n : ℕ) → ((g : ℕ) → g < n → negative (erases words g) ≡ false) → (o : Option ℕ) → Sign n o → o ≡ none
   sound-is n sound none q = refl
-  sound-is n sound (some p) q = absurd (false≢true (sym (sound (q .0) (q .1)) ∙ q .3))
+  sound-is n sound (some p) q = absurd (false≢true (sym (sound (q .0) (q .1 .inside)) ∙ q .1 .isNegative))
 
 pub picks-right : PicksRight
 picks-right =

@@ -19,6 +19,12 @@ pub record LeastWorn (words : List ℕ) (n g : ℕ) : Type 0 where
   pub fewest : (h : ℕ) → h < n → usable words h ≡ true → erases words h < lastCount → erases words g ≤ erases words h
   pub lowest : (h : ℕ) → h < g → usable words h ≡ true → erases words h < lastCount → erases words g < erases words h
 
+-- group g is the first of the n whose count is negative, usable or not
+pub record FirstNegative (words : List ℕ) (n g : ℕ) : Type 0 where
+  pub inside : g < n
+  pub isNegative : negative (erases words g) ≡ true
+  pub earlier : (h : ℕ) → h < g → negative (erases words h) ≡ false
+
 pub record PicksRight : Type 0 where
   -- a group is picked exactly if it is the least worn, and none exactly if none is left
   pub pick : (words : List ℕ) (n g : ℕ) → picked words n ≡ some g → LeastWorn words n g
@@ -28,5 +34,4 @@ pub record PicksRight : Type 0 where
   -- no count is negative exactly if none is found, and the place that is found is that of the first
   pub sound : (words : List ℕ) (n : ℕ) → negativeAt words n ≡ none → (g : ℕ) → g < n → negative (erases words g) ≡ false
   pub all-sound : (words : List ℕ) (n : ℕ) → ((g : ℕ) → g < n → negative (erases words g) ≡ false) → negativeAt words n ≡ none
-  pub first : (words : List ℕ) (n p : ℕ) → negativeAt words n ≡ some p
-      → (g : ℕ) × (g < n) × (p ≡ erasesPlace g) × (negative (erases words g) ≡ true) × ((h : ℕ) → h < g → negative (erases words h) ≡ false)
+  pub first : (words : List ℕ) (n p : ℕ) → negativeAt words n ≡ some p → (g : ℕ) × FirstNegative words n g × (p ≡ erasesPlace g)
