@@ -4,11 +4,10 @@ use oracle::fuzz::{fuzz, one_round, Failure, Library, Tally};
 use oracle::{lay_out_on_bytes, step_in_place, step_on_bytes, wear_in_place, wear_on_bytes, Call};
 
 use crate::peek::Peek;
-use crate::slips::{self, Slip};
+use crate::slips::{self, Slip, Wear, BAD_SETS_TAKEN, SLIPS};
 
 pub type StepOnBytes = fn(&mut [u8], Call) -> u64;
 type LayOut = fn(&mut [u8], &[u8]) -> u64;
-type Wear = fn(&mut [u8], &[u8], u8) -> u64;
 
 /// As many calls as the least counts are for.
 const CALLS: u64 = 250_000;
@@ -50,39 +49,6 @@ const WRONG_LAY_OUTS: [(&str, LayOut); 4] = [
         _ => lay_out_on_bytes(area, descriptions),
     }),
 ];
-
-macro_rules! slips {
-    ($($slip:ident),*) => {
-        [$((stringify!($slip), |area, set, slot| slips::wear(area, set, slot, Slip::$slip))),*]
-    };
-}
-
-/// The operation with each of the slips.
-const SLIPS: [(&str, Wear); 13] = slips!(
-    HighestOnATie,
-    PicksTheLastCount,
-    PicksUnusable,
-    OnlyUsableCountsTested,
-    CountPlusTwo,
-    ErasesCellFirst,
-    PlaceOneTooHigh,
-    PlaceOfTheGroup,
-    NegativeBeforeTheReads,
-    SlotBeforeSet,
-    LogsMayHaveEntries,
-    DropsTheReads,
-    WritesThoughNoneIsLeft
-);
-
-/// The operation with a set taken for good that is a bad one for one reason.
-const BAD_SETS_TAKEN: [(&str, Wear); 6] = slips!(
-    TakesNoByte,
-    TakesAnOddLength,
-    TakesNineGroups,
-    TakesACellNotBelowN,
-    TakesACellTwice,
-    TakesAWrongKind
-);
 
 const WRONG_WEARS: [(&str, Wear); 5] = [
     ("always refuses", |_, _, _| 1 << 40),
@@ -241,7 +207,7 @@ fn every_wrong_lay_out_is_caught() {
 
 #[test]
 fn every_wrong_wear_task_is_caught() {
-    for (name, wear) in SLIPS.into_iter().chain(WRONG_WEARS) {
+    for &(name, wear) in SLIPS.iter().chain(&WRONG_WEARS) {
         let failure = run(Library { wear, ..RIGHT }, 50_000).expect_err(name);
         println!("{name}: round {}", failure.round);
     }
@@ -250,7 +216,7 @@ fn every_wrong_wear_task_is_caught() {
 /// And at such a set, so not by chance at something else.
 #[test]
 fn every_bad_set_that_is_taken_is_caught() {
-    for (name, wear) in BAD_SETS_TAKEN {
+    for &(name, wear) in BAD_SETS_TAKEN {
         let failure = run(Library { wear, ..RIGHT }, 50_000).expect_err(name);
         println!("{name}: round {}", failure.round);
         assert!(failure.report.contains("answer: wanted code 32, kind 0"), "{name}: {failure}");

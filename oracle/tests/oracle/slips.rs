@@ -5,29 +5,54 @@ use oracle::step_on_bytes;
 
 use crate::peek::{self, Peek};
 
-/// What is done wrong.
-#[derive(Clone, Copy, PartialEq)]
-pub enum Slip {
-    Nothing,
-    HighestOnATie,
-    PicksTheLastCount,
-    PicksUnusable,
-    OnlyUsableCountsTested,
-    CountPlusTwo,
-    ErasesCellFirst,
-    PlaceOneTooHigh,
-    PlaceOfTheGroup,
-    NegativeBeforeTheReads,
-    SlotBeforeSet,
-    TakesNoByte,
-    TakesAnOddLength,
-    TakesNineGroups,
-    TakesACellNotBelowN,
-    TakesACellTwice,
-    TakesAWrongKind,
-    LogsMayHaveEntries,
-    DropsTheReads,
-    WritesThoughNoneIsLeft,
+/// The operation, with a slip or without one.
+pub type Wear = fn(&mut [u8], &[u8], u8) -> u64;
+
+/// Makes the slips out of one listing, and out of each of its groups a list of
+/// names and operations, so that no slip can be left untried.
+macro_rules! slips {
+    ($($(#[$about:meta])* $group:ident: $($slip:ident),*;)*) => {
+        /// What is done wrong.
+        #[derive(Clone, Copy, PartialEq)]
+        pub enum Slip {
+            Nothing,
+            $($($slip,)*)*
+        }
+
+        $(
+            $(#[$about])*
+            pub const $group: &[(&str, Wear)] = &[
+                $((stringify!($slip), |area, set, slot| wear(area, set, slot, Slip::$slip)),)*
+            ];
+        )*
+    };
+}
+
+slips! {
+    /// The operation with each of the slips that take no bad set.
+    SLIPS:
+        HighestOnATie,
+        PicksTheLastCount,
+        PicksUnusable,
+        OnlyUsableCountsTested,
+        CountPlusTwo,
+        ErasesCellFirst,
+        PlaceOneTooHigh,
+        PlaceOfTheGroup,
+        NegativeBeforeTheReads,
+        SlotBeforeSet,
+        LogsMayHaveEntries,
+        DropsTheReads,
+        WritesThoughNoneIsLeft;
+
+    /// The operation with a set taken for good that is a bad one for one reason.
+    BAD_SETS_TAKEN:
+        TakesNoByte,
+        TakesAnOddLength,
+        TakesNineGroups,
+        TakesACellNotBelowN,
+        TakesACellTwice,
+        TakesAWrongKind;
 }
 
 const LAST_COUNT: u32 = 0x7fff_ffff;

@@ -1,0 +1,81 @@
+//! Tasks that meet: a read refused because of another task, and tasks that
+//! level on one set.
+
+use super::{begun, code_at, hold_by_slot_2, picked, reads, refuses, set_of, wear, writes};
+use crate::bench::{refused, whole, Bench, DONE, FALSE, TRUE};
+
+/// Slot 2 publishes the cell's own value, so that its stamp is newer.
+fn renew_by_slot_2(bench: &mut Bench, cell: u8) {
+    hold_by_slot_2(bench, cell);
+    bench.make_all(&["enter 2", "finish 2", "publish 2"]);
+}
+
+#[test]
+fn a_refused_read_is_told_with_its_place_and_leaves_the_reads_before_it() {
+    let meets: [fn(&mut Bench, u8); 2] = [hold_by_slot_2, renew_by_slot_2];
+    for meet in meets {
+        for place in 0..16 {
+            let mut bench = begun(&[(true, 6); 8]);
+            meet(&mut bench, place);
+            assert_eq!(wear(&mut bench, &set_of(8), 1), code_at(place.into(), 10));
+            let before: Vec<(u8, u32)> =
+                (0..place).map(|cell| (cell, if cell % 2 == 0 { 1 } else { 6 })).collect();
+            assert_eq!(reads(&bench, 1), before);
+            assert_eq!(writes(&bench, 1), []);
+        }
+    }
+}
+
+#[test]
+fn the_first_refused_read_is_told() {
+    let mut bench = begun(&[(true, 6); 4]);
+    renew_by_slot_2(&mut bench, 6);
+    hold_by_slot_2(&mut bench, 3);
+    assert_eq!(wear(&mut bench, &set_of(4), 1), code_at(3, 10));
+    assert_eq!(reads(&bench, 1).len(), 3);
+    // The reads are in the log now, so the logs are not empty any more.
+    refuses(&bench, &set_of(4), 1, 4);
+}
+
+#[test]
+fn a_cell_outside_the_set_is_in_nobodys_way() {
+    let mut bench = begun(&[(true, 6); 4]);
+    hold_by_slot_2(&mut bench, 7);
+    assert_eq!(wear(&mut bench, &set_of(3), 1), picked(0));
+}
+
+/// Reads that were made do not count as conflicts with oneself, and what the
+/// operation leaves is committed as any other transaction is.
+#[test]
+fn a_task_that_levels_commits_its_count() {
+    let mut bench = begun(&[(true, 6), (true, 5)]);
+    assert_eq!(wear(&mut bench, &set_of(2), 1), picked(1));
+    bench.make_all(&["close 1", "lock 1"]);
+    assert_eq!(bench.make("enter 1"), TRUE);
+    bench.make_all(&["finish 1", "publish 1"]);
+    let words: Vec<u32> = bench.machine.cells().iter().map(|cell| cell.value.word()).collect();
+    assert_eq!(words, [1, 6, 1, 6]);
+    // Now both have six, so the lowest number decides.
+    bench.make_all(&["begin 1"]);
+    assert_eq!(wear(&mut bench, &set_of(2), 1), picked(0));
+}
+
+/// Two tasks that level on one set: the later one is not to write the count
+/// that it has read over the one that the other has published.
+#[test]
+fn of_two_tasks_that_pick_one_group_the_later_one_repeats() {
+    let mut bench = begun(&[(true, 6)]);
+    bench.make_all(&["begin 2"]);
+    assert_eq!(wear(&mut bench, &[0, 1], 1), picked(0));
+    assert_eq!(wear(&mut bench, &[0, 1], 2), picked(0));
+    bench.make_all(&["close 1", "lock 1", "enter 1", "finish 1", "publish 1", "close 2", "lock 2"]);
+    assert_eq!(bench.make("enter 2"), FALSE);
+    assert_eq!(bench.make("finish 2"), refused(13));
+    bench.make_all(&["begin 2"]);
+    assert_eq!(wear(&mut bench, &[0, 1], 2), picked(0));
+    assert_eq!(writes(&bench, 2), [(1, 8)]);
+    bench.make_all(&["close 2", "lock 2", "enter 2", "finish 2"]);
+    assert_eq!(bench.make("publish 2"), DONE);
+    bench.make_all(&["begin 1"]);
+    assert_eq!(bench.make("read 1 1"), whole(8));
+}
