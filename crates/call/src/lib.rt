@@ -1,6 +1,6 @@
 // A step as one value that carries its own arguments, and the reply.
 ghost use mathlib.Core.Path.{_≡_};
-ghost use Rattle.call.specs.Answer.{replyCode, replyKind, replyWord, replyNumber};
+ghost use Rattle.call.specs.Answer.{heldWord, replyCode, replyKind, replyWord, replyNumber};
 ghost use Rattle.call.specs.Decode.{aWrite, anUpdate, decoded};
 ghost use Rattle.value.specs.Value.{parsed};
 use value::CellValue;
@@ -97,6 +97,13 @@ fn decoded_update(cell: u8, kind: u8, word: u32) -> Decoded
     Decoded::Made(Step::Update(cell, v))
 }
 
+// Who is in the way, and at which cell.
+fn held_word(cell: u8, holder: u8) -> u32
+    ensures { λ r. ⌜ r ≡ heldWord cell holder ⌝ }
+{
+    (cell as u32) * 256 + (holder as u32)
+}
+
 impl Reply {
     fn code(self) -> u8
         ensures { λ r. ⌜ r ≡ replyCode self ⌝ }
@@ -114,7 +121,7 @@ impl Reply {
             Reply::OtherKind => 7,
             Reply::NotInLog => 8,
             Reply::LogFull => 9,
-            Reply::ReadHeld { holder: _ } => 10,
+            Reply::ReadHeld { holder: _ } => 14,
             Reply::ReadNewer => 10,
             Reply::LockHeld { cell: _, holder: _ } => 11,
             Reply::ReloadHeld { cell: _, holder: _ } => 11,
@@ -129,6 +136,9 @@ impl Reply {
         match self {
             Reply::Verdict(_) => 1,
             Reply::Value(v) => v.kind(),
+            Reply::ReadHeld { holder: _ } => 2,
+            Reply::LockHeld { cell: _, holder: _ } => 2,
+            Reply::ReloadHeld { cell: _, holder: _ } => 2,
             _ => 0,
         }
     }
@@ -139,6 +149,9 @@ impl Reply {
         match self {
             Reply::Verdict(yes) => if yes { 1 } else { 0 },
             Reply::Value(v) => v.word(),
+            Reply::ReadHeld { holder } => holder as u32,
+            Reply::LockHeld { cell, holder } => held_word(cell, holder),
+            Reply::ReloadHeld { cell, holder } => held_word(cell, holder),
             _ => 0,
         }
     }

@@ -33,12 +33,12 @@ use Rattle.rules.specs.Area.{answered, stepOnBytes}
 use Rattle.rules.specs.Run.{call}
 use Rattle.rules.specs.Allowed.{Row, _when_, rowNumber, allowed}
 use Rattle.rules.proofs.Cases.{cond-case, found-case, log-case, idle-case, open-case, locking-case, twilight-case, publishing-case, uncommitted-case}
-use Rattle.rules.specs.Codes.{codeTable, stepOutside, slotOutside, notAllowed, cellOutside, valueIllegal, kindDiffers, notInLog, logFull, readConflicts, cellHeld, stampsSpent, outcomeCode, Ending, refusal, outcome, endingCode, firstOf, tableEnding}
-use Rattle.rules.specs.LowestCode.{ending, lowerApplies, LowestCode}
+use Rattle.rules.specs.Codes.{codeTable, stepOutside, slotOutside, notAllowed, cellOutside, valueIllegal, kindDiffers, notInLog, logFull, readHeld, readNewer, cellHeld, stampsSpent, outcomeCode, Ending, refusal, outcome, endingCode, firstOf, tableEnding}
+use Rattle.rules.specs.LowestCode.{ending, height, lowerApplies, LowestCode}
 
 -- opens the table and the way from a call to its row
 unfoldable table : ℕ
-unfolding step stepOf decoded tableEnding firstOf stepOutside slotOutside notAllowed allowed cellOutside valueIllegal kindDiffers notInLog logFull readConflicts cellHeld stampsSpent outcomeCode any first readsCell writesCell readEntry writeEntry _and_ _or_
+unfolding step stepOf decoded tableEnding firstOf stepOutside slotOutside notAllowed allowed cellOutside valueIllegal kindDiffers notInLog logFull readHeld readNewer cellHeld stampsSpent outcomeCode any first readsCell writesCell readEntry writeEntry _and_ _or_
 table = 0
 
 -- the outcome ends so
@@ -64,14 +64,6 @@ found f l o other e there gone = found-case (Ends e) (first f l) o other (λ x p
 logged : {A : Type 0} (f : A → Bool) (l : List A) (o : A → Outcome) (e : Ending)
     → (any f l ≡ false → Ends e (refused NotInLog)) → ((x : A) → any f l ≡ true → Ends e (o x)) → Ends e (inLog (first f l) o)
 logged f l o e gone there = log-case (Ends e) (first f l) o (λ p. gone (of-none f l p)) (λ x p. there x (of-some f l x p))
-
--- held and newer have one code
-conflicts : (held new : Bool) (holder : ℕ) (o : Outcome) (e : Ending) → Ends e o
-    → Ends (cond (held or new) (refusal 10) e) (refuseIf held (ReadHeld holder) (refuseIf new ReadNewer o))
-unfolding _or_
-conflicts true new holder o e f = refl
-conflicts false true holder o e f = refl
-conflicts false false holder o e f = f
 
 -- some missing; none missing
 missing : (taken n : ℕ) (o : Outcome) (e : Ending) → Ends e o → Ends (cond (not (ltb taken n or false)) (refusal 4) e) (refuseIf (leb n taken) NotAllowed o)
@@ -124,7 +116,8 @@ module _ (M : Model) (S : State) (slot c kind word : ℕ) where
       (found (λ (e : ReadEntry). eqb (e .cell) c) reads _ _ _ (λ e r. rw r) λ r.
       rw r
       (tested-beside (leb readCapacity (length reads)) LogFull _ _
-      (conflicts (heldByOther i (cellAt S c)) (newer start (cellAt S c)) (cellAt S c .holder) _ _ refl))))))
+      (tested (heldByOther i (cellAt S c)) (ReadHeld (cellAt S c .holder)) _ _
+      (tested (newer start (cellAt S c)) ReadNewer _ _ refl)))))))
 
   write-row : legalWord kind word ≡ true → Ends (tableEnding M S (call 3 slot c kind word)) (insideSlots M slot (write M S i c (valueOf kind word)))
   unfolding table write
@@ -278,23 +271,24 @@ on-bytes : (M : Model) (bytes : List ℕ) (right : Bool) (o : Outcome) (e : Endi
 on-bytes M bytes true o e f = answer-code M bytes o ∙ ap endingCode f
 on-bytes M bytes false o e f = refl
 
--- rows above a code have no lower one that applies, and in rows that ascend by code those after the first that applies are above it
-none-lower : (k : ℕ) (rows : List Row) → all (λ (q : Row). ltb k (rowNumber q)) rows ≡ true → any (lowerApplies k) rows ≡ false
+-- rows above a code have no lower one that applies, and in rows that ascend those after the first that applies are above it
+none-lower : (k : ℕ) (rows : List Row) → all (λ (q : Row). ltb (height k) (height (rowNumber q))) rows ≡ true → any (lowerApplies k) rows ≡ false
 unfolding any all _and_ _or_
 none-lower k [] p = refl
 none-lower k (code when true ∷ rows) p =
-    let above : k < code = ltb-true k code (and-left (ltb k code) _ p) in
-    rw (le-ltb code k (omega arith)) (none-lower k rows (and-right (ltb k code) _ p))
-none-lower k (code when false ∷ rows) p = none-lower k rows (and-right (ltb k code) _ p)
+    let above : height k < height code = ltb-true (height k) (height code) (and-left (ltb (height k) (height code)) _ p) in
+    rw (le-ltb (height code) (height k) (omega arith)) (none-lower k rows (and-right (ltb (height k) (height code)) _ p))
+none-lower k (code when false ∷ rows) p = none-lower k rows (and-right (ltb (height k) (height code)) _ p)
 
-first-lowest : (rows : List Row) (n k : ℕ) → pairwise (λ (r q : Row). ltb (rowNumber r) (rowNumber q)) rows ≡ true
+first-lowest : (rows : List Row) (n k : ℕ) → pairwise (λ (r q : Row). ltb (height (rowNumber r)) (height (rowNumber q))) rows ≡ true
     → firstOf rows (outcome n) ≡ refusal k → any (lowerApplies k) rows ≡ false
 unfolding firstOf any pairwise _and_ _or_
 first-lowest [] n k p e = refl
 first-lowest (code when true ∷ rows) n k p e =
     let same : code ≡ k = ap endingCode e in
-    rw (le-ltb code k (omega arith), ← same) (none-lower code rows (and-left (all (λ (q : Row). ltb code (rowNumber q)) rows) _ p))
-first-lowest (code when false ∷ rows) n k p e = first-lowest rows n k (and-right (all (λ (q : Row). ltb code (rowNumber q)) rows) _ p) e
+    rw (← same, le-ltb (height code) (height code) (omega arith)) (none-lower code rows (and-left (all (λ (q : Row). ltb (height code) (height (rowNumber q))) rows) _ p))
+first-lowest (code when false ∷ rows) n k p e =
+    first-lowest rows n k (and-right (all (λ (q : Row). ltb (height code) (height (rowNumber q))) rows) _ p) e
 
 pub lowest-code : (M : Model) → LowestCode M
 unfolding stepOnBytes tableEnding pairwise all _and_

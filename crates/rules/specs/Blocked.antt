@@ -1,16 +1,17 @@
 -- "Two slots may each hold what the other has read and both get 11 from reload without end."
-use mathlib.Core.Bool.{Bool, true, false}
+use mathlib.Core.Bool.{Bool, true, false, cond}
 use mathlib.Core.List.{List, [], _∷_, map}
 use mathlib.Core.Path.{_≡_}
 use Prim.Native.Nat.{ℕ}
 use lib.Dec.{eqb}
-use lib.ListN.{length, replicate}
+use lib.ListN.{replicate}
+use Rattle.call.specs.Answer.{heldWord}
 use Rattle.slot.specs.Logic.{_or_, all}
 use Rattle.rules.specs.Model.{controller}
 use Rattle.rules.specs.State.{State, idle, twilight}
 use Rattle.rules.specs.Step.{Call}
-use Rattle.rules.specs.Run.{call, replies, endState}
-use Rattle.rules.specs.Edges.{two, refusedWith, alone}
+use Rattle.rules.specs.Run.{call, Shown, shown, replies, endState}
+use Rattle.rules.specs.Edges.{two, alone}
 
 -- both begin; slot 1 reads cell 0 and writes cell 1, slot 2 reads cell 1 and writes cell 0; both close, lock and enter
 abbrev pub crossing : List Call
@@ -44,6 +45,10 @@ blocked =
 abbrev pub reloadOf : ℕ → Call
 reloadOf slot = alone 10 slot
 
+-- what each is told: slot 1 that slot 2 holds cell 0, slot 2 that slot 1 holds cell 1
+abbrev pub whoBlocks : ℕ → Shown
+whoBlocks slot = shown 11 2 (cond (eqb slot 1) (heldWord 0 2) (heldWord 1 1))
+
 -- a list of slots, each 1 or 2
 unfoldable pub ofTheTwo : List ℕ → Bool
 ofTheTwo slots = all (λ s. eqb s 1 or eqb s 2) slots
@@ -51,6 +56,6 @@ ofTheTwo slots = all (λ s. eqb s 1 or eqb s 2) slots
 pub record Blocked : Type 0 where
   -- It is reached from a fresh state.
   pub reached : endState controller two crossing ≡ blocked
-  -- Any list of reloads of the two, in any order: each gets 11, and nothing changes.
-  pub endless : (slots : List ℕ) → ofTheTwo slots ≡ true → replies controller blocked (map reloadOf slots) ≡ replicate (length slots) (refusedWith 11)
+  -- Any list of reloads of the two, in any order: each gets 11 with the other's number, and nothing changes.
+  pub endless : (slots : List ℕ) → ofTheTwo slots ≡ true → replies controller blocked (map reloadOf slots) ≡ map whoBlocks slots
   pub kept : (slots : List ℕ) → ofTheTwo slots ≡ true → endState controller blocked (map reloadOf slots) ≡ blocked

@@ -1,4 +1,4 @@
--- "Codes, and which comes first": the table of codes 2 to 12, in the order in which they are tested. Each row says for itself when its code is given, of any state
+-- "Codes, and which comes first": the table of codes from 2 on, in the order in which they are tested. Each row says for itself when its code is given, of any state
 -- and of a call of any five numbers, in the table's words: none looks at what a step does. Code 1 stands before them all, at `stepOnBytes`.
 use mathlib.Core.Bool.{Bool, not, cond}
 use mathlib.Core.List.{List, [], _∷_}
@@ -96,9 +96,13 @@ module _ (M : Model) (S : State) (a : Call) where
       (readsShared and leb readCapacity (length (readsOf own)))
       or (isWrite and not inWriteLog and leb writeCapacity (length (writesOf own)))
 
-  -- 10: read from a shared cell that is held by another slot or has a stamp above start
-  unfoldable pub readConflicts : Bool
-  readConflicts = readsShared and (heldByAnother (a .cell) or newer (startOf own) (cellAt S (a .cell)))
+  -- 14: read from a shared cell that is held by another slot
+  unfoldable pub readHeld : Bool
+  readHeld = readsShared and heldByAnother (a .cell)
+
+  -- 10: read from a shared cell that has a stamp above start
+  unfoldable pub readNewer : Bool
+  readNewer = readsShared and newer (startOf own) (cellAt S (a .cell))
 
   -- 11: lock: the cell is held by another, the lowest of the write log not yet taken; reload: some read cell is held by another
   unfoldable pub cellHeld : Bool
@@ -121,7 +125,8 @@ module _ (M : Model) (S : State) (a : Call) where
       ∷ 7 when kindDiffers
       ∷ 8 when notInLog
       ∷ 9 when logFull
-      ∷ 10 when readConflicts
+      ∷ 14 when readHeld
+      ∷ 10 when readNewer
       ∷ 11 when cellHeld
       ∷ 12 when stampsSpent
       ∷ []

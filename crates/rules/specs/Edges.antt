@@ -88,10 +88,10 @@ pub record Edges (Told : State → List Call → List Shown → Type 0) (Ends : 
   -- begin, close, enter, finish with empty logs: idle after finish, clock 1, no cell changed
   pub E10 : Told two (upToEnter 1 ++ (alone 12 1 ∷ [])) (done ∷ done ∷ shown 0 1 1 ∷ done ∷ [])
   pub E10-after : Ends two (upToEnter 1 ++ (alone 12 1 ∷ [])) (record { clock = 1; cells = two .cells; slots = replicate 8 idle })
-  -- slot 1 holds cell 0; open slot 2 reads cell 0 before writing it: 10; it then writes it, closes and locks: the lock gives 11
+  -- slot 1 holds cell 0; open slot 2 reads cell 0 before writing it: 14; it then writes it, closes and locks: the lock gives 11; each with kind 2 and word 1
   pub E11 :
       Told two (holdFirst ++ (alone 1 2 ∷ call 2 2 0 0 0 ∷ call 3 2 0 2 8 ∷ alone 4 2 ∷ alone 5 2 ∷ []))
-      (done ∷ done ∷ done ∷ done ∷ done ∷ refusedWith 10 ∷ done ∷ done ∷ refusedWith 11 ∷ [])
+      (done ∷ done ∷ done ∷ done ∷ done ∷ shown 14 2 1 ∷ done ∷ done ∷ shown 11 2 1 ∷ [])
   -- with no other slot in use, a cell read, then written and locked by the same slot, is not marked by enter
   pub E12 :
       Told two (alone 1 1 ∷ call 2 1 0 0 0 ∷ call 3 1 0 2 9 ∷ alone 4 1 ∷ alone 5 1 ∷ alone 6 1 ∷ call 9 1 0 0 0 ∷ [])

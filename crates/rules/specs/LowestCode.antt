@@ -1,9 +1,9 @@
--- "The lowest code that applies is given, and none is given otherwise."
+-- "The lowest code that applies is given, and none is given otherwise." "14 held, tested before 10."
 use mathlib.Core.Bool.{Bool, true, false, cond}
 use mathlib.Core.List.{List}
 use mathlib.Core.Path.{_≡_}
-use Prim.Native.Nat.{ℕ}
-use lib.Dec.{ltb}
+use Prim.Native.Nat.{ℕ, _*_}
+use lib.Dec.{eqb, ltb}
 use Rattle.call.specs.Answer.{replyCode}
 use Rattle.slot.specs.Logic.{_and_, any, pairwise}
 use Rattle.rules.specs.Model.{Model}
@@ -21,9 +21,13 @@ abbrev pub ending : Outcome → Ending
 ending (refused r) = refusal (replyCode r)
 ending (accepted r T) = outcome (replyCode r)
 
--- a row of the table applies, and its code is below k
+-- How low a code is: 14 stands between 9 and 10, and every other code where its number is.
+abbrev pub height : ℕ → ℕ
+height code = cond (eqb code 14) 19 (2 * code)
+
+-- a row of the table applies, and its code is lower than k
 abbrev pub lowerApplies : ℕ → Row → Bool
-lowerApplies k (code when applies) = applies and ltb code k
+lowerApplies k (code when applies) = applies and ltb (height code) (height k)
 
 pub record LowestCode (M : Model) : Type 0 where
   -- From any state, and for any five numbers, a step ends as the table says: refused with the code of the first row that applies, and accepted if none does.
@@ -31,7 +35,6 @@ pub record LowestCode (M : Model) : Type 0 where
   -- On any bytes: code 1 if they are not well formed, else the table's code for the state in them.
   pub onBytes : (bytes : List ℕ) (a : Call)
       → replyCode (stepOnBytes M bytes a .reply) ≡ cond (wellFormed M bytes) (endingCode (tableEnding M (stateOf M bytes) a)) 1
-  -- "The lowest code": where a step is refused, no row with a lower code applies. It is so because the rows ascend by code. A row put out of the order of codes ends these two;
-  -- `given` stays.
+  -- "The lowest code": where a step is refused, no row with a lower code applies. It is so because the rows ascend.
   pub lowest : (S : State) (a : Call) (k : ℕ) → ending (step M S a) ≡ refusal k → any (lowerApplies k) (codeTable M S a) ≡ false
-  pub ascending : (S : State) (a : Call) → pairwise (λ (r q : Row). ltb (rowNumber r) (rowNumber q)) (codeTable M S a) ≡ true
+  pub ascending : (S : State) (a : Call) → pairwise (λ (r q : Row). ltb (height (rowNumber r)) (height (rowNumber q))) (codeTable M S a) ≡ true
