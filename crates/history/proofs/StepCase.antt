@@ -18,41 +18,56 @@ use Rattle.rules.specs.Outcome.{Outcome, refused, accepted, insideCells}
 use Rattle.rules.specs.Steps.{illegalWrite, illegalUpdate}
 use Rattle.rules.specs.Step.{Call, row, insideSlots, stepOf, step}
 use Rattle.slot.proofs.Logic.{and-left, and-right}
-use Rattle.history.proofs.Cases.{Refusal, refuse-case, open-case, twilight-case}
-use Rattle.history.proofs.Move.{Move, Lawful, lawful}
+use Rattle.history.proofs.Cases.{Refusal, Bare, bare, refuse-case, open-case, twilight-case}
+use Rattle.history.proofs.Move.{Move, Declined, barely, read-held, lock-held, reload-held, Lawful, lawful}
 
-module _ (M : Model) (S : State) (P : Outcome → Type 0) (refusal : (r : Reply) → Refusal r → P (refused r)) where
-  pub row-case : (i : ℕ) (s : Step) → ((r : Reply) (T : State) → Move M S i s r T → P (accepted r T)) → P (row M S i s)
-  row-case i s f = by (row M S i s) (lawful M S i s)
-    where
-      by : (o : Outcome) → Lawful M S i s o → P o
-      by (refused r) k = refusal r k
-      by (accepted r T) m = f r T m
-
+module _ (M : Model) (S : State) (P : Outcome → Type 0) (barely : (r : Reply) → Bare r → P (refused r)) where
   pub slots-case : (slot : ℕ) (o : Outcome) → (pred slot < M .slots → P o) → P (insideSlots M slot o)
   slots-case slot o f =
-      refuse-case P refusal (not (leb 1 slot and leb slot (M .slots))) NoSuchSlot (tt, tt) o
+      refuse-case P barely (not (leb 1 slot and leb slot (M .slots))) NoSuchSlot bare o
       (λ e.
       let both : (leb 1 slot and leb slot (M .slots)) ≡ true = not-false _ e in
       f (omega (arith, leb-true 1 slot (and-left _ _ both), leb-true slot (M .slots) (and-right _ _ both))))
 
   -- a value is missing: refused, whatever the slot and the cell
   cell-case : (c : ℕ) → P (insideCells S c (refused IllegalValue))
-  cell-case c = refuse-case P refusal (leb (cellCount S) c) NoSuchCell (tt, tt) (refused IllegalValue) (λ e. refusal IllegalValue (tt, tt))
+  cell-case c = refuse-case P barely (leb (cellCount S) c) NoSuchCell bare (refused IllegalValue) (λ e. barely IllegalValue bare)
 
   module _ (a : Call)
-      (moved : (s : Step) → decoded (a .step) (a .cell) (a .kind) (a .word) ≡ Made s → pred (a .slot) < M .slots
-      → (r : Reply) (T : State) → Move M S (pred (a .slot)) s r T → P (accepted r T)) where
+      (goes : (s : Step) → decoded (a .step) (a .cell) (a .kind) (a .word) ≡ Made s → pred (a .slot) < M .slots
+      → (o : Outcome) → Lawful M S (pred (a .slot)) s o → P o) where
     of-case : (d : Decoded) → decoded (a .step) (a .cell) (a .kind) (a .word) ≡ d → P (stepOf M S (a .slot) d)
     unfolding stepOf illegalWrite illegalUpdate
-    of-case (Made s) e = slots-case (a .slot) _ (λ h. row-case (pred (a .slot)) s (moved s e h))
-    of-case (IllegalWrite c) e = slots-case (a .slot) _ (λ h. open-case P refusal (slotAt S (pred (a .slot))) _ λ start reads writes x. cell-case c)
+    of-case (Made s) e = slots-case (a .slot) _ (λ h. goes s e h (row M S (pred (a .slot)) s) (lawful M S (pred (a .slot)) s))
+    of-case (IllegalWrite c) e = slots-case (a .slot) _ (λ h. open-case P barely (slotAt S (pred (a .slot))) _ λ start reads writes x. cell-case c)
     of-case (IllegalUpdate c) e =
-        slots-case (a .slot) _ (λ h. twilight-case P refusal (slotAt S (pred (a .slot))) _ λ ignoring start commit reads writes x. cell-case c)
-    of-case Unknown e = refusal NoSuchStep (tt, tt)
+        slots-case (a .slot) _ (λ h. twilight-case P barely (slotAt S (pred (a .slot))) _ λ ignoring start commit reads writes x. cell-case c)
+    of-case Unknown e = barely NoSuchStep bare
 
-    pub step-case : P (step M S a)
+    -- of a step that is refused before its row, with what holds of each lawful row
+    pub lawful-case : P (step M S a)
     unfolding step
-    step-case =
-        refuse-case P refusal (not (leb 1 (a .step) and leb (a .step) (lastStep M))) NoSuchStep (tt, tt) _
+    lawful-case =
+        refuse-case P barely (not (leb 1 (a .step) and leb (a .step) (lastStep M))) NoSuchStep bare _
         (λ inside. of-case (decoded (a .step) (a .cell) (a .kind) (a .word)) refl)
+
+-- every refusal has its code
+declined-code : {S : State} {i : ℕ} {s : Step} {r : Reply} → Declined S i s r → Refusal r
+declined-code (barely k) = k .0
+declined-code (read-held held) = (tt, tt)
+declined-code (lock-held x same held) = (tt, tt)
+declined-code (reload-held x o) = (tt, tt)
+
+module _ (M : Model) (S : State) (P : Outcome → Type 0) (refusal : (r : Reply) → Refusal r → P (refused r)) where
+  by-law : (i : ℕ) (s : Step) → ((r : Reply) (T : State) → Move M S i s r T → P (accepted r T)) → (o : Outcome) → Lawful M S i s o → P o
+  by-law i s f (refused r) k = refusal r (declined-code k)
+  by-law i s f (accepted r T) m = f r T m
+
+  pub row-case : (i : ℕ) (s : Step) → ((r : Reply) (T : State) → Move M S i s r T → P (accepted r T)) → P (row M S i s)
+  row-case i s f = by-law i s f (row M S i s) (lawful M S i s)
+
+  pub step-case : (a : Call)
+      → ((s : Step) → decoded (a .step) (a .cell) (a .kind) (a .word) ≡ Made s → pred (a .slot) < M .slots
+      → (r : Reply) (T : State) → Move M S (pred (a .slot)) s r T → P (accepted r T))
+      → P (step M S a)
+  step-case a moved = lawful-case M S P (λ r k. refusal r (k .0)) a (λ s made h. by-law (pred (a .slot)) s (moved s made h))

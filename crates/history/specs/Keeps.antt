@@ -5,7 +5,7 @@ use mathlib.Core.Path.{_≡_}
 use Prim.Native.Nat.{ℕ, _≤_}
 use lib.ListN.{length}
 use Rattle.wire.specs.Field.{Bytes}
-use Rattle.call.specs.Answer.{replyCode}
+use Rattle.call.specs.Answer.{replyCode, Refuses}
 use Rattle.rules.specs.Model.{Model, lastStamp}
 use Rattle.rules.specs.State.{State, cellCount, cellAt}
 use Rattle.rules.specs.StateRight.{stateRight}
@@ -39,9 +39,8 @@ pub record Keeps (M : Model) : Type 0 where
   pub areaNever1 : (a : List ℕ) (call : Call) → wellFormed M a ≡ true → replyCode (stepOnBytes M a call .reply) ≡ 1 → ⊥
   pub areaKept : (a : List ℕ) (call : Call) → Bytes a → wellFormed M a ≡ true → wellFormed M (stepOnBytes M a call .bytes) ≡ true
   pub bytesKept : (a : List ℕ) (call : Call) → Bytes a → wellFormed M a ≡ true → Bytes (stepOnBytes M a call .bytes)
-  -- Every code from 1 to 12 leaves the area untouched, well formed or not.
-  pub untouched : (a : List ℕ) (call : Call) → 1 ≤ replyCode (stepOnBytes M a call .reply) → replyCode (stepOnBytes M a call .reply) ≤ 12
-      → stepOnBytes M a call .bytes ≡ a
+  -- Every refusal leaves the area untouched, well formed or not.
+  pub untouched : (a : List ℕ) (call : Call) → Refuses (replyCode (stepOnBytes M a call .reply)) → stepOnBytes M a call .bytes ≡ a
   -- An area that is laid out, and then only ever stepped, never gets code 1: no call does, whatever the calls before it.
   pub never1 : (a ds : List ℕ) → layOut M a ds .code ≡ 0 → (calls : List Call) (call : Call)
       → replyCode (stepOnBytes M (bytesAfter M (layOut M a ds .bytes) calls) call .reply) ≡ 1 → ⊥

@@ -3,7 +3,8 @@ use mathlib.Core.Bool.{Bool, true, false, cond}
 use mathlib.Core.List.{List}
 use mathlib.Core.Option.{Option, none, some}
 use mathlib.Core.Path.{_≡_, refl, subst}
-use Prim.Native.Nat.{ℕ, _≤_}
+use Prim.Native.Nat.{ℕ}
+use lib.Dec.{T, eqb}
 use lib.ListN.{length}
 use Rattle.call.specs.Answer.{replyCode}
 use Rattle.call.specs.declared.Reply.{Reply}
@@ -15,8 +16,8 @@ use Rattle.history.proofs.Cases.{Refusal}
 use Rattle.rules.specs.Outcome.{Outcome, refused, accepted, whenIdle, whenOpen, whenLocking, whenTwilight, whenPublishing, whenUncommitted, refuseIf, inLog, foundOr}
 
 -- an acceptance has code 0 or 13
-pub record Acceptance (r : Reply) : Type 0 where
-  pub outside : 1 ≤ replyCode r → replyCode r ≤ 12 → ⊥
+abbrev pub Acceptance : Reply → Type 0
+Acceptance r = T (cond (eqb (replyCode r) 0) true (eqb (replyCode r) 13))
 
 -- what is the same after both
 pub record SameAfter (S S′ : State) (i : ℕ) (T T′ : State) : Type 0 where

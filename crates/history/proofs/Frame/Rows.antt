@@ -97,7 +97,7 @@ module _ {S S′ : State} {i : ℕ} {names : ℕ → Bool} (a : Alike S S′ i n
   stays r r′ e code = both-accepted e code (record { clock = a .clock; slot = λ n. a .slot; cells = λ c q. q })
 
   answers : (c w : ℕ) → names c ≡ true → Matches S S′ i (accepted (answer S c w) S) (accepted (answer S′ c w) S′)
-  answers c w n = stays (answer S c w) (answer S′ c w) (ap (λ (y : Cell). Value (valueOf (y .kind) w)) (named c n)) (omega arith)
+  answers c w n = stays (answer S c w) (answer S′ c w) (ap (λ (y : Cell). Value (valueOf (y .kind) w)) (named c n)) tt
 
   -- the slot turns, and cells that were the same stay so; or no cell changes; or all that the slot holds are freed
   turns : (r r′ : Reply) (k k′ : ℕ) (cells cells′ : List Cell) (x x′ : Slot) → r ≡ r′ → Acceptance r → k ≡ k′ → x ≡ x′
@@ -111,7 +111,7 @@ module _ {S S′ : State} {i : ℕ} {names : ℕ → Bool} (a : Alike S S′ i n
   steady r r′ x x′ e code q = turns r r′ (S .clock) (S′ .clock) (S .cells) (S′ .cells) x x′ e code (a .clock) q (λ c p. p)
 
   done : (x : Slot) → Matches S S′ i (accepted Done (turn S i (S .clock) (S .cells) x)) (accepted Done (turn S′ i (S′ .clock) (S′ .cells) x))
-  done x = steady Done Done x x refl (omega arith) refl
+  done x = steady Done Done x x refl tt refl
 
   frees : (r : Reply) → Acceptance r
       → Matches S S′ i (accepted r (turn S i (S .clock) (freeAll i (S .cells)) idle)) (accepted r (turn S′ i (S′ .clock) (freeAll i (S′ .cells)) idle))
@@ -125,7 +125,7 @@ module _ (M : Model) (S S′ : State) (i : ℕ) where
   matches Begin a =
       rw (← (a .slot))
       (both-idle (slotAt S i) _ _ λ x.
-      steady a Done Done _ _ refl (omega arith) (ap (λ (k : ℕ). opened k [] []) (a .clock)))
+      steady a Done Done _ _ refl tt (ap (λ (k : ℕ). opened k [] []) (a .clock)))
   matches (Read c) a =
       rw (← (a .slot))
       (both-open (slotAt S i) _ _ λ start reads writes x.
@@ -136,7 +136,7 @@ module _ (M : Model) (S S′ : State) (i : ℕ) where
       both-refuse (leb readCapacity (length reads)) _ LogFull LogFull _ _ refl refl (tt, tt) λ room.
       both-refuse _ _ (ReadHeld (cellAt S c .holder)) (ReadHeld (cellAt S′ c .holder)) _ _ (ap (heldByOther i) here) (ap (λ (y : Cell). ReadHeld (y .holder)) here) (tt, tt) λ held.
       both-refuse _ _ ReadNewer ReadNewer _ _ (ap (newer start) here) refl (tt, tt) λ new.
-      steady a (answer S c (cellAt S c .word)) _ _ _ (ap (λ (y : Cell). Value (valueOf (y .kind) (y .word))) here) (omega arith)
+      steady a (answer S c (cellAt S c .word)) _ _ _ (ap (λ (y : Cell). Value (valueOf (y .kind) (y .word))) here) tt
       (ap (λ (y : Cell). opened start (reads ++ (record { cell = c; mark = false; word = y .word } ∷ [])) writes) here)))
   matches (Write c v) a =
       rw (← (a .slot))
@@ -154,7 +154,7 @@ module _ (M : Model) (S S′ : State) (i : ℕ) where
       let here : cellAt S c ≡ cellAt S′ c = at-write a writes (ap writesOf x) count (leb-false _ _ missing) in
       both-refuse _ _ (LockHeld c (cellAt S c .holder)) (LockHeld c (cellAt S′ c .holder)) _ _ (ap (heldByOther i) here) (ap (λ (y : Cell). LockHeld c (y .holder)) here)
       (tt, tt) λ free.
-      turns a Done Done _ _ _ _ _ _ refl (omega arith) (a .clock) refl
+      turns a Done Done _ _ _ _ _ _ refl tt (a .clock) refl
       (λ d e. set-same (S .cells) (S′ .cells) c d _ _ noCell (a .count) (λ q. ap (takenBy i) here) e))
   matches Enter a =
       rw (← (a .slot))
@@ -162,7 +162,7 @@ module _ (M : Model) (S S′ : State) (i : ℕ) where
       both-refuse (ltb count (length writes)) _ NotAllowed NotAllowed _ _ refl refl (tt, tt) λ whole.
       stamp a M _ _
       (let marks = same-marks a reads (ap readsOf x) start in
-      turns a (Verdict (not (someMarked (map (withMark S i start) reads)))) _ _ _ _ _ _ _ (ap (λ (l : List ReadEntry). Verdict (not (someMarked l))) marks) (omega arith) (ap suc (a .clock))
+      turns a (Verdict (not (someMarked (map (withMark S i start) reads)))) _ _ _ _ _ _ _ (ap (λ (l : List ReadEntry). Verdict (not (someMarked l))) marks) tt (ap suc (a .clock))
       (ap₂ (λ (k : ℕ) (l : List ReadEntry). twilight false start (suc k) l writes) (a .clock) marks) (λ c e. e)))
   matches (Reread c) a =
       rw (← (a .slot))
@@ -178,7 +178,7 @@ module _ (M : Model) (S S′ : State) (i : ℕ) where
   matches (Ask c) a =
       rw (← (a .slot))
       (both-twilight (slotAt S i) _ _ λ ignoring start commit reads writes x.
-      inside a c _ _ (both-log (readEntry reads c) _ _ λ e r. stays a (Verdict (e .mark)) _ refl (omega arith)))
+      inside a c _ _ (both-log (readEntry reads c) _ _ λ e r. stays a (Verdict (e .mark)) _ refl tt))
   matches Reload a =
       rw (← (a .slot))
       (both-twilight (slotAt S i) _ _ λ ignoring start commit reads writes x.
@@ -187,20 +187,20 @@ module _ (M : Model) (S S′ : State) (i : ℕ) where
       both-refused {r = ReloadHeld (e .cell) (cellAt S (e .cell) .holder)}
       (ap (λ (y : Cell). ReloadHeld (e .cell) (y .holder)) (at-obstacle a reads (ap readsOf x) e o)) (tt, tt)) λ clear.
       stamp a M _ _
-      (turns a Done Done _ _ _ _ _ _ refl (omega arith) (ap suc (a .clock))
+      (turns a Done Done _ _ _ _ _ _ refl tt (ap suc (a .clock))
       (ap₂ (λ (k : ℕ) (l : List ReadEntry). twilight false start (suc k) l writes) (a .clock) (same-words a reads (ap readsOf x))) (λ c e. e)))
   matches Ignore a =
       rw (← (a .slot))
       (both-twilight (slotAt S i) _ _ λ ignoring start commit reads writes x.
-      both-cond (someMarked reads) _ _ _ _ _ refl (λ m. done a _) (λ m. stays a Done Done refl (omega arith)))
+      both-cond (someMarked reads) _ _ _ _ _ refl (λ m. done a _) (λ m. stays a Done Done refl tt))
   matches Finish a =
       rw (← (a .slot))
       (both-twilight (slotAt S i) _ _ λ ignoring start commit reads writes x.
-      both-cond (someMarked reads and not ignoring) _ _ _ _ _ refl (λ m. frees a Aborted (omega arith)) (λ m. done a _))
+      both-cond (someMarked reads and not ignoring) _ _ _ _ _ refl (λ m. frees a Aborted tt) (λ m. done a _))
   matches Publish a =
       rw (← (a .slot))
       (both-publishing (slotAt S i) _ _ λ ignoring count start commit reads writes x.
       let e = getD writes count noWrite in
-      turns a Done Done _ _ _ _ _ _ refl (omega arith) (a .clock) refl
+      turns a Done Done _ _ _ _ _ _ refl tt (a .clock) refl
       (λ d same. set-same (S .cells) (S′ .cells) (e .cell) d _ _ noCell (a .count) (λ q. ap (publishedAs (e .word) commit) (rw q at same)) same))
-  matches GiveUp a = rw (← (a .slot)) (both-uncommitted (slotAt S i) _ _ (frees a Done (omega arith)))
+  matches GiveUp a = rw (← (a .slot)) (both-uncommitted (slotAt S i) _ _ (frees a Done tt))

@@ -2,11 +2,11 @@
 use mathlib.Core.Bool.{true}
 use mathlib.Core.List.{List, [], _∷_}
 use mathlib.Core.Path.{_≡_, refl, _∙_, ap}
-use Prim.Native.Nat.{ℕ, _≤_}
+use Prim.Native.Nat.{ℕ}
 use native.Mathlib.Omega.{arith}
 use lib.Dec.{leb→le}
 use Rattle.wire.specs.Field.{Bytes}
-use Rattle.call.specs.Answer.{replyCode}
+use Rattle.call.specs.Answer.{replyCode, Refuses}
 use Rattle.rules.specs.Model.{Model, FitsBytes}
 use Rattle.rules.specs.State.{State}
 use Rattle.rules.specs.StateRight.{stateRight}
@@ -21,7 +21,7 @@ use Rattle.rules.proofs.LaidOut.{laid-right, lays-out}
 use Rattle.history.specs.Keeps.{repliesOnBytes, bytesAfter}
 use Rattle.history.proofs.Keeps.Lists.{cond-elim}
 use Rattle.history.proofs.Keeps.Moves.{step-keeps}
-use Rattle.history.proofs.Keeps.Codes.{Coded, step-coded}
+use Rattle.history.proofs.Keeps.Codes.{Coded, acceptance, step-coded}
 
 module _ (M : Model) where
   -- the step on a well-formed area
@@ -35,21 +35,20 @@ module _ (M : Model) where
 
   never-1 : (a : List ℕ) (o : Outcome) → Coded o → replyCode (answered M a o .reply) ≡ 1 → ⊥
   never-1 a (refused r) c e = omega (arith, leb→le 2 (replyCode r) (c .0))
-  never-1 a (accepted r T) c e = c .outside (omega arith) (omega arith)
+  never-1 a (accepted r T) c e = acceptance r c (λ z. omega arith, λ z. omega arith)
 
   pub area-never-1 : (a : List ℕ) (call : Call) → wellFormed M a ≡ true → replyCode (stepOnBytes M a call .reply) ≡ 1 → ⊥
   area-never-1 a call right = rw (stepped a call right) (never-1 a (step M (stateOf M a) call) (step-coded M (stateOf M a) call))
 
-  refused-untouched : (a : List ℕ) (o : Outcome) → Coded o → 1 ≤ replyCode (answered M a o .reply) → replyCode (answered M a o .reply) ≤ 12 → answered M a o .bytes ≡ a
-  refused-untouched a (refused r) c low high = refl
-  refused-untouched a (accepted r T) c low high = absurd (c .outside low high)
+  refused-untouched : (a : List ℕ) (o : Outcome) → Coded o → Refuses (replyCode (answered M a o .reply)) → answered M a o .bytes ≡ a
+  refused-untouched a (refused r) c refuses = refl
+  refused-untouched a (accepted r T) c refuses = absurd (acceptance r c refuses)
 
-  pub area-untouched : (a : List ℕ) (call : Call) → 1 ≤ replyCode (stepOnBytes M a call .reply) → replyCode (stepOnBytes M a call .reply) ≤ 12
-      → stepOnBytes M a call .bytes ≡ a
+  pub area-untouched : (a : List ℕ) (call : Call) → Refuses (replyCode (stepOnBytes M a call .reply)) → stepOnBytes M a call .bytes ≡ a
   unfolding stepOnBytes
   area-untouched a call =
-      cond-elim (λ (r : Answered). 1 ≤ replyCode (r .reply) → replyCode (r .reply) ≤ 12 → r .bytes ≡ a) (wellFormed M a) _ _
-      (λ right. refused-untouched a (step M (stateOf M a) call) (step-coded M (stateOf M a) call)) (λ wrong low high. refl)
+      cond-elim (λ (r : Answered). Refuses (replyCode (r .reply)) → r .bytes ≡ a) (wellFormed M a) _ _
+      (λ right. refused-untouched a (step M (stateOf M a) call) (step-coded M (stateOf M a) call)) (λ wrong refuses. refl)
 
 -- bytes, and well formed
 pub record Good (M : Model) (a : List ℕ) : Type 0 where
