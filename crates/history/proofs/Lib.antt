@@ -18,3 +18,4 @@ pub mod Advance
 pub mod Demand3
 pub mod Slips
 pub mod Histories
+pub mod InTheWay

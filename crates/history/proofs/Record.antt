@@ -102,7 +102,7 @@ unfolding _and_
 no-read e p = rw p
 
 -- the cell that a read names
-read-names : (n cell kind word c : ℕ) → n ≡ 2 → decoded n cell kind word ≡ Made (Read c) → cell ≡ c
+pub read-names : (n cell kind word c : ℕ) → n ≡ 2 → decoded n cell kind word ≡ Made (Read c) → cell ≡ c
 unfolding decoded
 read-names n cell kind word c e p =
     let q : Made (Read cell) ≡ Made (Read c) = sym (ap (λ (k : ℕ). decoded k cell kind word) e) ∙ p in

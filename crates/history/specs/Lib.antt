@@ -3,3 +3,4 @@ pub mod AreaHistory
 pub mod Slips
 pub mod Keeps
 pub mod Frame
+pub mod InTheWay

@@ -154,3 +154,20 @@ module _ {A : Type 0} where
           let q : y ≡ x = cc in
           subst P q (each 0 (omega arith))
       by false p rest = rest (rw p at e)
+
+  -- what is found stands at a place before which the test holds nowhere
+  pub first-place : (f : A → Bool) (l : List A) (d x : A) → first f l ≡ some x
+      → (place : ℕ) × (place < length l) × (getD l place d ≡ x) × ((earlier : ℕ) → earlier < place → f (getD l earlier d) ≡ false)
+  unfolding first
+  first-place f [] d x e = let z : _≡_ {A = ℕ} 0 1 = cc in absurd (omega arith)
+  first-place f (y ∷ l) d x e = by (f y) refl (first-place f l d x)
+    where
+      one-on : f y ≡ false → (k : ℕ) → ((j : ℕ) → j < k → f (getD l j d) ≡ false) → (j : ℕ) → j < suc k → f (getD (y ∷ l) j d) ≡ false
+      one-on p k before zero h = p
+      one-on p k before (suc j) h = before j (omega arith)
+
+      by : (b : Bool) → f y ≡ b
+          → (first f l ≡ some x → (place : ℕ) × (place < length l) × (getD l place d ≡ x) × ((earlier : ℕ) → earlier < place → f (getD l earlier d) ≡ false))
+          → (place : ℕ) × (place < suc (length l)) × (getD (y ∷ l) place d ≡ x) × ((earlier : ℕ) → earlier < place → f (getD (y ∷ l) earlier d) ≡ false)
+      by true p later = let found : some y ≡ some x = rw p at e in (0, omega arith, cc, λ j h. absurd (omega arith))
+      by false p later = let rest = later (rw p at e) in (suc (rest .0), omega (arith, rest .1), rest .2, one-on p (rest .0) (rest .3))

@@ -1,0 +1,158 @@
+-- Who is in the way: a hold by another slot is a hold of the one that the cell names, since holders are right, and the three refusals that say so have shown it.
+use mathlib.Core.Bool.{Bool, true, false, not, cond, false≢true}
+use mathlib.Core.List.{List}
+use mathlib.Core.Logic.{inl, inr}
+use mathlib.Core.Option.{some}
+use mathlib.Core.Path.{_≡_, refl, sym, _∙_, ap}
+use Prim.Native.Nat.{ℕ, zero, suc, pred, _/_, _%_, _<_, _≤_}
+use native.Mathlib.Omega.{arith}
+use lib.Dec.{T, eqb, ltb}
+use lib.ListN.{length, getD, List·getD-eq-default}
+use borrow.Author.Tests.{eqb-false, eq-eqb, ltb-true, ltb-false, not-true}
+use Rattle.call.specs.declared.Step.{Step}
+use Rattle.call.specs.declared.Step.the-variants.{Read, Lock, Reload}
+use Rattle.call.specs.declared.Decoded.the-variants.{Made}
+use Rattle.call.specs.declared.Reply.{Reply}
+use Rattle.call.specs.declared.Reply.the-variants.{ReadHeld, LockHeld, ReloadHeld}
+use Rattle.call.specs.Answer.{heldWord, replyCode}
+use Rattle.call.specs.Decode.{decoded}
+use Rattle.call.proofs.Number.{number-back}
+use Rattle.slot.specs.declared.ReadEntry.{ReadEntry}
+use Rattle.slot.specs.Layout.{noRead}
+use Rattle.slot.specs.Logic.{_and_}
+use Rattle.slot.proofs.Logic.{and-left, and-right}
+use Rattle.slot.proofs.Search.{found-passes}
+use Rattle.rules.specs.Model.{Model, FitsBytes}
+use Rattle.rules.specs.State.{State, cellCount, cellAt, slotAt, readsOf, noCell}
+use Rattle.rules.specs.Cells.{heldByOther, obstacle}
+use Rattle.rules.specs.StateRight.{holds, stateRight}
+use Rattle.rules.specs.Outcome.{Outcome, refused, accepted, replyOf}
+use Rattle.rules.specs.Step.{Call, step}
+use Rattle.history.specs.InTheWay.{InTheWay, SaysHeld, TellsWho}
+use Rattle.history.proofs.Cases.{Bare}
+use Rattle.history.proofs.Right.{Right, right-of}
+use Rattle.history.proofs.Move.{Declined, barely, read-held, lock-held, reload-held, Lawful}
+use Rattle.history.proofs.StepCase.{lawful-case}
+use Rattle.history.proofs.Record.{read-names}
+use Rattle.history.proofs.Keeps.Lists.{first-place}
+use Rattle.history.proofs.Keeps.Codes.{Coded, acceptance, step-coded}
+
+-- a cell that another slot holds has a holder, which is not the slot itself, and is there
+module _ (S : State) (i c : ℕ) (held : heldByOther i (cellAt S c) ≡ true) where
+  pub some-holder : cellAt S c .holder ≡ 0 → ⊥
+  unfolding heldByOther
+  some-holder = eqb-false _ _ (not-true _ (and-left _ _ held))
+
+  pub other-holder : cellAt S c .holder ≡ suc i → ⊥
+  unfolding heldByOther
+  other-holder = eqb-false _ _ (not-true _ (and-right (not (eqb (cellAt S c .holder) 0)) _ held))
+
+  pub held-inside : c < cellCount S
+  held-inside = by (ltb c (cellCount S)) refl
+    where
+      by : (b : Bool) → ltb c (cellCount S) ≡ b → c < cellCount S
+      by true e = ltb-true _ _ e
+      by false e = absurd (some-holder (rw (List·getD-eq-default (S .cells) noCell {n = c} (ltb-false _ _ e))))
+
+  module _ (M : Model) (right : Right M S) where
+    holding : (h : ℕ) → cellAt S c .holder ≡ h → h ≤ M .slots → (h ≡ 0 → ⊥) → holds (slotAt S (pred h)) c ≡ true
+    holding zero e most busy = absurd (busy refl)
+    holding (suc s) e most busy = sym (right .held c s held-inside (omega arith)) ∙ eq-eqb _ _ e
+
+    another : (slot : ℕ) → pred slot ≡ i → cellAt S c .holder ≡ slot → ⊥
+    another zero e same = some-holder same
+    another (suc j) e same = other-holder (same ∙ ap suc e)
+
+    pub in-the-way : (slot : ℕ) → pred slot ≡ i → InTheWay M S slot c (cellAt S c .holder)
+    in-the-way slot own =
+        let most = right .holder-slot c held-inside in
+        record {
+          fromOne = omega (arith, some-holder);
+          toLast = most;
+          another = another slot own;
+          inside = held-inside;
+          named = refl;
+          holding = holding (cellAt S c .holder) refl most some-holder;
+        }
+
+module _ (M : Model) (fits : FitsBytes M) (S : State) (right : Right M S) (a : Call) where
+  abbrev i : ℕ
+  i = pred (a .slot)
+
+  -- the obstacle is held by another slot, and nothing before it is
+  obstacle-held : (reads : List ReadEntry) (y : ReadEntry) → obstacle S i reads ≡ some y → heldByOther i (cellAt S (y .cell)) ≡ true
+  unfolding obstacle
+  obstacle-held reads y o = found-passes (λ (e : ReadEntry). heldByOther i (cellAt S (e .cell))) reads y o
+
+  obstacle-first : (reads : List ReadEntry) (y : ReadEntry) → obstacle S i reads ≡ some y → {c : ℕ} → c ≡ y .cell
+      → (place : ℕ)
+      × (place < length reads)
+      × (getD reads place noRead .cell ≡ c)
+      × ((earlier : ℕ) → earlier < place → heldByOther i (cellAt S (getD reads earlier noRead .cell)) ≡ false)
+  unfolding obstacle
+  obstacle-first reads y o same =
+      let there = first-place (λ (e : ReadEntry). heldByOther i (cellAt S (e .cell))) reads noRead y o in
+      (there .0, there .1, ap (λ (e : ReadEntry). e .cell) (there .2) ∙ sym same, there .3)
+
+  silent : (r : Reply) → (replyCode r ≡ 11 → ⊥) → (replyCode r ≡ 14 → ⊥) → SaysHeld M S a r
+  silent r not-11 not-14 =
+      record {
+        read = λ e. absurd (not-14 e);
+        lockOrReload = λ e. absurd (not-11 e);
+        lockNext = λ e s. absurd (not-11 e);
+        reloadFirst = λ e s. absurd (not-11 e);
+      }
+
+  -- a word that is put together comes apart again
+  apart : (c h : ℕ) → h ≤ M .slots → (heldWord c h / 256 ≡ c) × (heldWord c h % 256 ≡ h)
+  apart c h most = let wide = fits .slots-fit in (omega arith, omega arith)
+
+  at-cell : (c : ℕ) → heldByOther i (cellAt S c) ≡ true
+      → let word = heldWord c (cellAt S c .holder) in InTheWay M S (a .slot) (word / 256) (word % 256)
+  at-cell c held =
+      let back = apart c (cellAt S c .holder) (right .holder-slot c (held-inside S i c held)) in
+      rw (back .0, back .1) (in-the-way S i c held M right (a .slot) refl)
+
+  cell-back : (c : ℕ) → heldByOther i (cellAt S c) ≡ true → heldWord c (cellAt S c .holder) / 256 ≡ c
+  cell-back c held = apart c (cellAt S c .holder) (right .holder-slot c (held-inside S i c held)) .0
+
+  said : (s : Step) (r : Reply) → decoded (a .step) (a .cell) (a .kind) (a .word) ≡ Made s → Declined S i s r → SaysHeld M S a r
+  said s r made (barely k) = silent r (λ e. rw e at (k .1)) (λ e. rw e at (k .2))
+  said s r made (read-held {c = c} held) =
+      let number : a .step ≡ 2 = number-back (a .step) (a .cell) (a .kind) (a .word) (Read c) made in
+      let named : a .cell ≡ c = read-names (a .step) (a .cell) (a .kind) (a .word) c number made in
+      record {
+        read = λ e. (number, refl, rw named (in-the-way S i c held M right (a .slot) refl));
+        lockOrReload = λ e. absurd (omega arith);
+        lockNext = λ e s. absurd (omega arith);
+        reloadFirst = λ e s. absurd (omega arith);
+      }
+  said s r made (lock-held {c = c} x same held) =
+      let number : a .step ≡ 5 = number-back (a .step) (a .cell) (a .kind) (a .word) Lock made in
+      record {
+        read = λ e. absurd (omega arith);
+        lockOrReload = λ e. (inl number, refl, at-cell c held);
+        lockNext = λ e s. rw x (cell-back c held ∙ same);
+        reloadFirst = λ e s. absurd (omega arith);
+      }
+  said s r made (reload-held {e = y} {reads = reads} x o) =
+      let number : a .step ≡ 10 = number-back (a .step) (a .cell) (a .kind) (a .word) Reload made in
+      let held : heldByOther i (cellAt S (y .cell)) ≡ true = obstacle-held reads y o in
+      record {
+        read = λ e. absurd (omega arith);
+        lockOrReload = λ e. (inr number, refl, at-cell (y .cell) held);
+        lockNext = λ e s. absurd (omega arith);
+        reloadFirst = λ e s. rw x (obstacle-first reads y o (cell-back (y .cell) held));
+      }
+
+  goes : (s : Step) → decoded (a .step) (a .cell) (a .kind) (a .word) ≡ Made s → (o : Outcome) → Lawful M S i s o → Coded o → SaysHeld M S a (replyOf o)
+  goes s made (refused r) k coded = said s r made k
+  goes s made (accepted r T) m coded = silent r (λ e. acceptance r coded (λ z. omega arith, λ z. omega arith)) (λ e. acceptance r coded (λ z. omega arith, λ z. omega arith))
+
+  pub says-held : SaysHeld M S a (replyOf (step M S a))
+  says-held =
+      lawful-case M S (λ o. Coded o → SaysHeld M S a (replyOf o)) (λ r k coded. silent r (λ e. rw e at (k .1)) (λ e. rw e at (k .2))) a
+      (λ s made h. goes s made) (step-coded M S a)
+
+pub tells-who : (M : Model) → FitsBytes M → TellsWho M
+tells-who M fits = record { tells = λ S a right. says-held M fits S (right-of M S right) a }
