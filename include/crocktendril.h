@@ -73,7 +73,7 @@ extern "C" {
 
 /*
  * Kinds, with the words that are legal for each. A cell never changes its
- * kind. NONE is the kind of a reply that has no value.
+ * kind. NONE is the kind of a reply whose word says nothing.
  *
  *   TRUTH  0 or 1
  *   WHOLE  a 32-bit two's complement number
@@ -87,7 +87,7 @@ extern "C" {
 /*
  * Steps: the phase in which each is allowed, the arguments that it uses beside
  * its slot, and what it does. Other arguments are ignored. Most answer kind
- * and word 0.
+ * and word 0 when they are done.
  *
  *   BEGIN    idle                     opens a transaction
  *   READ     open        cell         answers the cell's value and logs it
@@ -130,9 +130,16 @@ extern "C" {
 #define CROCKTENDRIL_STEP_GIVE_UP 14
 
 /*
- * Codes of a step's reply. Of those that apply the lowest is given. From 1 to
- * 12 the step is refused: no byte of the area has changed, and kind and word
- * are 0. ABORTED is no refusal but an outcome.
+ * Codes of a step's reply. Every code but DONE and ABORTED is a refusal: no
+ * byte of the area has changed. Kind and word are then 0, but for
+ * HELD_BY_ANOTHER and READ_HELD, which say who is in the way. ABORTED is no
+ * refusal but an outcome, with kind and word 0.
+ *
+ * Of those that apply the lowest is given, with one exception: READ_HELD is
+ * tested before READ_NEWER, and after LOG_FULL.
+ *
+ * WARNING: HELD_BY_ANOTHER and READ_HELD have kind WHOLE, and their word is
+ * no cell's value. Look at the code before you take the word for a value.
  *
  *   DONE             the step is made
  *   NOT_WELL_FORMED  these bytes are no area
@@ -145,16 +152,21 @@ extern "C" {
  *   NOT_IN_LOG       REREAD, ASK: the cell is not in the read log; UPDATE: it
  *                    is not in the write log
  *   LOG_FULL         READ, WRITE: the log has 16 entries, and needs one more
- *   NOT_READABLE     READ: another slot holds the cell, or its stamp is above
- *                    start; a transaction begun anew can read the latter
+ *   READ_NEWER       READ: the cell's stamp is above start. Waiting never
+ *                    helps: give up. A transaction begun anew can read it
  *   HELD_BY_ANOTHER  LOCK: another slot holds the cell; RELOAD: another slot
- *                    holds a cell that was read. Trying again may help. But two
- *                    slots can each hold what the other has read, and a LOCK
- *                    and a RELOAD can wait for each other: count the tries,
- *                    and after a while give up
+ *                    holds a cell that was read. Kind WHOLE, word
+ *                    cell * 256 + holder; for RELOAD of the first such cell in
+ *                    the order in which they were read. Let the holder run and
+ *                    try again. But two slots can each hold what the other has
+ *                    read, and a LOCK and a RELOAD can wait for each other:
+ *                    count the tries, and after a while give up
  *   LAST_STAMP       ENTER, RELOAD: the clock can't go on
  *   ABORTED          FINISH met a mark that is not ignored: the transaction has
  *                    ended without commit, and the slot and its cells are free
+ *   READ_HELD        READ: another slot holds the cell. Kind WHOLE, word the
+ *                    holder. Let it run and try again, a few times. Once the
+ *                    cell is free, the read is done or gets READ_NEWER
  */
 #define CROCKTENDRIL_CODE_DONE 0
 #define CROCKTENDRIL_CODE_NOT_WELL_FORMED 1
@@ -166,10 +178,11 @@ extern "C" {
 #define CROCKTENDRIL_CODE_OTHER_KIND 7
 #define CROCKTENDRIL_CODE_NOT_IN_LOG 8
 #define CROCKTENDRIL_CODE_LOG_FULL 9
-#define CROCKTENDRIL_CODE_NOT_READABLE 10
+#define CROCKTENDRIL_CODE_READ_NEWER 10
 #define CROCKTENDRIL_CODE_HELD_BY_ANOTHER 11
 #define CROCKTENDRIL_CODE_LAST_STAMP 12
 #define CROCKTENDRIL_CODE_ABORTED 13
+#define CROCKTENDRIL_CODE_READ_HELD 14
 
 /*
  * A step's reply is one number, code * 2^40 + kind * 2^32 + word. These macros
@@ -182,6 +195,17 @@ extern "C" {
 #define CROCKTENDRIL_REPLY_CODE(reply) ((unsigned)(((uint64_t)(reply) >> 40) & 255))
 #define CROCKTENDRIL_REPLY_KIND(reply) ((unsigned)(((uint64_t)(reply) >> 32) & 255))
 #define CROCKTENDRIL_REPLY_WORD(reply) ((uint32_t)((uint64_t)(reply) & 0xFFFFFFFF))
+
+/*
+ * Who is in the way: these macros take it out of a reply's word. The holder is
+ * in the word of HELD_BY_ANOTHER and of READ_HELD, the held cell in that of
+ * HELD_BY_ANOTHER alone: after READ_HELD it is the cell that was to be read.
+ *
+ * What they say can be relied on: the holder is a slot from 1 to 8 other than
+ * the one that made the call, and it holds that cell.
+ */
+#define CROCKTENDRIL_HOLDER(word) ((unsigned)((uint32_t)(word) & 255))
+#define CROCKTENDRIL_HELD_CELL(word) ((unsigned)((uint32_t)(word) >> 8))
 
 /* Makes one step of one slot on the area, and answers its reply. */
 uint64_t crocktendril_step(uint8_t *area, size_t area_len, uint8_t step, uint8_t slot,

@@ -48,21 +48,28 @@ extern "C" {
  *                        twice, or is of the wrong kind
  *   NO_SUCH_SLOT     3   slot outside 1 to 8
  *   NOT_ALLOWED      4   the slot's transaction is not open with empty logs
- *   NOT_READABLE     10  a read was refused: another slot holds the cell, or
- *                        its stamp is above start. The place is the cell's
+ *   READ_HELD        14  a read was refused: another slot holds the cell. The
+ *                        place is the cell's; kind WHOLE, word the holder
+ *   READ_NEWER       10  a read was refused: the cell's stamp is above start.
+ *                        The place is the cell's
  *   NEGATIVE_COUNT   33  a count is negative, be its group usable or not. The
  *                        place is that of the first such count
  *   NONE_LEFT        34  no group is both usable and below 2^31 - 1 erases
  *
  * A place is that of a cell in the set, from 0: group place / 2, its truth cell
  * if the place is even, its count if it is odd. With other codes it is 0. Kind
- * and word are 0 but for DONE.
+ * and word are 0 but for DONE and READ_HELD. The word of READ_HELD is that of a
+ * step: CROCKTENDRIL_HOLDER takes it, and says what it says there.
  *
- * 1, 32, 3 and 4 change no byte. 10 leaves the reads before it in the read log,
- * 33 and 34 leave all of them, and none of the three writes anything: give up.
- * After 10, begin anew and try again, a few times. After 33 trying again does
- * not help: the count has been damaged. After 34 it helps only once a group has
- * been made usable.
+ * WARNING: DONE and READ_HELD both have kind WHOLE. Look at the code before you
+ * take the word for a group.
+ *
+ * 1, 32, 3 and 4 change no byte. 14 and 10 leave the reads before them in the
+ * read log, 33 and 34 leave all of them, and none of the four writes anything:
+ * give up. After 14, let the holder run, begin anew and try again, a few times.
+ * After 10, begin anew at once: waiting does not help. After 33 trying again
+ * does not help: the count has been damaged. After 34 it helps only once a
+ * group has been made usable.
  */
 #define CROCKTENDRIL_CODE_BAD_SET 32
 #define CROCKTENDRIL_CODE_NEGATIVE_COUNT 33

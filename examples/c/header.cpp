@@ -14,6 +14,29 @@ typedef char code_13[CROCKTENDRIL_REPLY_CODE(REPLY) == CROCKTENDRIL_CODE_ABORTED
 typedef char kind_2[CROCKTENDRIL_REPLY_KIND(REPLY) == CROCKTENDRIL_KIND_WHOLE ? 1 : -1];
 typedef char all_ones[CROCKTENDRIL_REPLY_WORD(REPLY) == 0xFFFFFFFF ? 1 : -1];
 
+/* Code 11, kind 2: slot 8 holds cell 63. Code 14, kind 2: slot 1 holds the
+   cell. The lowest byte alone is the holder, all above it is the cell. */
+#define OF_A_LOCK (((uint64_t)0xB02 << 32) | (63 * 256 + 8))
+#define OF_A_READ (((uint64_t)0xE02 << 32) | 1)
+#define LOCK_WORD CROCKTENDRIL_REPLY_WORD(OF_A_LOCK)
+#define READ_WORD CROCKTENDRIL_REPLY_WORD(OF_A_READ)
+#define BY_ANOTHER CROCKTENDRIL_CODE_HELD_BY_ANOTHER
+typedef char code_11[CROCKTENDRIL_REPLY_CODE(OF_A_LOCK) == BY_ANOTHER ? 1 : -1];
+typedef char code_14[CROCKTENDRIL_REPLY_CODE(OF_A_READ) == CROCKTENDRIL_CODE_READ_HELD ? 1 : -1];
+typedef char cell_63[CROCKTENDRIL_HELD_CELL(LOCK_WORD) == 63 ? 1 : -1];
+typedef char held_by_8[CROCKTENDRIL_HOLDER(LOCK_WORD) == 8 ? 1 : -1];
+typedef char held_by_1[CROCKTENDRIL_HOLDER(READ_WORD) == 1 ? 1 : -1];
+
+/* What the caller hands in is taken whole, also without brackets of its own. */
+typedef char cell_2[CROCKTENDRIL_HELD_CELL(512 | 3) == 2 ? 1 : -1];
+typedef char held_by_3[CROCKTENDRIL_HOLDER(512 | 3) == 3 ? 1 : -1];
+
+/* The old name of code 10 stood for two causes. Code that uses it shall not
+   compile. */
+#ifdef CROCKTENDRIL_CODE_NOT_READABLE
+#error "code 10 has one cause, and is READ_NEWER"
+#endif
+
 uint64_t begin_on_a_fresh_area(void);
 
 uint64_t begin_on_a_fresh_area(void)

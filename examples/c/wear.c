@@ -8,7 +8,8 @@
  * picks the group that is then the least worn. So each erase is counted.
  *
  * The tasks take turns. A turn is one call, as between two ticks of a
- * scheduler. What is picked, committed, refused or out of date is printed.
+ * scheduler. What is picked, committed, refused or out of date is printed, and
+ * by whom a cell is held.
  */
 
 #include <stdio.h>
@@ -21,12 +22,17 @@
 #define ERASES(group) (GROUPS + (group))
 #define CELLS (2 * GROUPS)
 
+/* The tasks, by their slots. */
+#define LOGGER 1
+#define RECIPES 2
+#define MONITOR 3
+#define TASKS 3
+
 /* What a task does in its next turn: a step, or one of these. */
 #define AT_REST 0
 #define WEAR 255
 
 struct task {
-    const char *name;
     uint8_t slot;
     uint8_t next;
     unsigned wanted; /* groups that it still needs */
@@ -50,9 +56,12 @@ static const uint8_t set[CROCKTENDRIL_WEAR_SET_LENGTH(GROUPS)] = {
     USABLE(0), ERASES(0), USABLE(1), ERASES(1), USABLE(2), ERASES(2)};
 
 static const char *const code_names[] = {
-    "done",          "not well formed", "no such step", "no such slot",    "not allowed",
-    "no such cell",  "illegal value",   "other kind",   "not in the log",  "log full",
-    "not readable",  "held by another", "last stamp",   "aborted"};
+    "done",         "not well formed", "no such step", "no such slot",   "not allowed",
+    "no such cell", "illegal value",   "other kind",   "not in the log", "log full",
+    "newer",        "held by another", "last stamp",   "aborted",        "held"};
+
+/* By slot, from 1. */
+static const char *const task_names[TASKS] = {"logger", "recipes", "monitor"};
 
 /* Commits of all tasks. */
 static unsigned commits;
@@ -78,11 +87,32 @@ static void print_code(unsigned code)
     }
 }
 
+static const char *task_name(unsigned slot)
+{
+    return slot >= 1 && slot <= TASKS ? task_names[slot - 1] : "no task";
+}
+
+static void print_cell(unsigned cell)
+{
+    printf("the %s of group %u", cell < GROUPS ? "truth cell" : "erases", cell % GROUPS);
+}
+
 /* Makes one step and answers its reply. Where tasks interrupt each other, the
    call is masked. */
 static uint64_t make(const struct task *task, uint8_t step, uint8_t cell)
 {
     return crocktendril_step(area, sizeof area, step, task->slot, cell, CROCKTENDRIL_KIND_NONE, 0);
+}
+
+static void print_refusal(unsigned code, uint32_t word)
+{
+    print_code(code);
+    if (code == CROCKTENDRIL_CODE_HELD_BY_ANOTHER) {
+        printf(": ");
+        print_cell(CROCKTENDRIL_HELD_CELL(word));
+        printf(", by %s", task_name(CROCKTENDRIL_HOLDER(word)));
+    }
+    printf("\n");
 }
 
 /* Answers the code of a reply. It is printed if the step is not done. */
@@ -91,9 +121,8 @@ static unsigned code_of(const struct task *task, const char *name, uint64_t repl
     unsigned code = CROCKTENDRIL_REPLY_CODE(reply);
 
     if (code != CROCKTENDRIL_CODE_DONE) {
-        printf("%-7s  %-6s  ", task->name, name);
-        print_code(code);
-        printf("\n");
+        printf("%-7s  %-6s  ", task_name(task->slot), name);
+        print_refusal(code, CROCKTENDRIL_REPLY_WORD(reply));
     }
     return code;
 }
@@ -104,25 +133,32 @@ static unsigned take(const struct task *task, uint8_t step, const char *name)
     return code_of(task, name, make(task, step, 0));
 }
 
-static void print_answer(const struct task *task, uint64_t answer)
+/* What the operation answered, if it picked no group. */
+static void print_no_pick(uint64_t answer)
 {
     unsigned code = CROCKTENDRIL_WEAR_CODE(answer), place = CROCKTENDRIL_WEAR_PLACE(answer);
 
-    printf("%-7s  wear    ", task->name);
+    print_code(code);
     switch (code) {
-    case CROCKTENDRIL_CODE_DONE:
-        printf("picked group %lu\n", (unsigned long)CROCKTENDRIL_WEAR_WORD(answer));
-        break;
-    case CROCKTENDRIL_CODE_NOT_READABLE:
+    case CROCKTENDRIL_CODE_READ_HELD:
+    case CROCKTENDRIL_CODE_READ_NEWER:
     case CROCKTENDRIL_CODE_NEGATIVE_COUNT:
-        print_code(code);
-        printf(" at place %u, the %s of group %u\n", place,
-               place % 2 == 0 ? "truth cell" : "erases", place / 2);
-        break;
-    default:
-        print_code(code);
-        printf("\n");
+        printf(" at place %u, ", place);
+        print_cell(set[place]);
     }
+    if (code == CROCKTENDRIL_CODE_READ_HELD)
+        printf(", by %s", task_name(CROCKTENDRIL_HOLDER(CROCKTENDRIL_WEAR_WORD(answer))));
+    printf("\n");
+}
+
+/* The code comes first: the word is a group only if it is done. */
+static void print_answer(const struct task *task, uint64_t answer)
+{
+    printf("%-7s  wear    ", task_name(task->slot));
+    if (CROCKTENDRIL_WEAR_CODE(answer) == CROCKTENDRIL_CODE_DONE)
+        printf("picked group %lu\n", (unsigned long)CROCKTENDRIL_WEAR_WORD(answer));
+    else
+        print_no_pick(answer);
 }
 
 /* Drops the work for good: trying again would not help. */
@@ -133,19 +169,24 @@ static uint8_t leave(struct task *task)
 }
 
 /* Picks a group. A refusal leaves reads in the log, so the task gives up before
-   it tries again; and only a cell that was not readable may be so later. */
+   it tries again. That helps after two of them: a cell that is held will be
+   free, as the holder has turns too, and one that is newer than this
+   transaction is not newer than the next. */
 static uint8_t wear(struct task *task)
 {
     uint64_t answer = crocktendril_wear(area, sizeof area, set, sizeof set, task->slot);
 
     print_answer(task, answer);
-    if (CROCKTENDRIL_WEAR_CODE(answer) == CROCKTENDRIL_CODE_DONE) {
+    switch (CROCKTENDRIL_WEAR_CODE(answer)) {
+    case CROCKTENDRIL_CODE_DONE:
         task->group = (unsigned)CROCKTENDRIL_WEAR_WORD(answer);
         return CROCKTENDRIL_STEP_CLOSE;
-    }
-    if (CROCKTENDRIL_WEAR_CODE(answer) != CROCKTENDRIL_CODE_NOT_READABLE)
+    case CROCKTENDRIL_CODE_READ_HELD:
+    case CROCKTENDRIL_CODE_READ_NEWER:
+        return CROCKTENDRIL_STEP_GIVE_UP;
+    default:
         return leave(task);
-    return CROCKTENDRIL_STEP_GIVE_UP;
+    }
 }
 
 /* Takes the one cell that is written. Held by another: once more at the next
@@ -171,7 +212,7 @@ static uint8_t enter(struct task *task)
         return leave(task);
     /* It answers 0 if something that was read is out of date. */
     if (CROCKTENDRIL_REPLY_WORD(reply) == 0)
-        printf("%-7s  enter   a cell that was read is out of date\n", task->name);
+        printf("%-7s  enter   a cell that was read is out of date\n", task_name(task->slot));
     return CROCKTENDRIL_STEP_FINISH;
 }
 
@@ -186,7 +227,7 @@ static uint8_t finish(struct task *task)
     default:
         return leave(task);
     }
-    printf("%-7s  finish  committed, group %u\n", task->name, task->group);
+    printf("%-7s  finish  committed, group %u\n", task_name(task->slot), task->group);
     task->wanted--;
     commits++;
     return CROCKTENDRIL_STEP_PUBLISH;
@@ -230,7 +271,7 @@ static unsigned long read_word(const struct task *task, uint8_t cell)
    the sum of the counts. */
 static unsigned long monitor(void)
 {
-    struct task task = {"monitor", 3, AT_REST, 0, 0};
+    struct task task = {MONITOR, AT_REST, 0, 0};
     unsigned long erases, sum = 0;
     unsigned group;
 
@@ -247,8 +288,8 @@ static unsigned long monitor(void)
 
 int main(void)
 {
-    struct task logger = {"logger", 1, CROCKTENDRIL_STEP_BEGIN, 2, 0};
-    struct task recipes = {"recipes", 2, CROCKTENDRIL_STEP_BEGIN, 1, 0};
+    struct task logger = {LOGGER, CROCKTENDRIL_STEP_BEGIN, 2, 0};
+    struct task recipes = {RECIPES, CROCKTENDRIL_STEP_BEGIN, 1, 0};
     unsigned long erases;
 
     /* The answer of a lay-out is compared as it stands. */
