@@ -4,20 +4,21 @@ use mathlib.Core.List.{List}
 use mathlib.Core.Logic.{_⊎_, inl, inr}
 use mathlib.Core.Option.{Option, none, some}
 use mathlib.Core.Path.{_≡_, refl, sym, _∙_, ap, subst}
-use Prim.Native.Nat.{ℕ, _/_, _%_, _^_, _<_, _≤_}
+use Prim.Native.Nat.{ℕ, pred, _/_, _%_, _^_, _<_, _≤_}
 use native.Mathlib.Omega.{arith}
 use lib.Dec.{lit<}
-use lib.ListN.{length}
+use lib.ListN.{length, getD}
 use Rattle.wire.specs.Field.{Bytes}
 use Rattle.wire.proofs.Unique.{unique}
-use Rattle.call.specs.Answer.{replyCode}
-use Rattle.call.proofs.Answer.{refusal-bare}
-use Rattle.rules.specs.Model.{Model, controller}
+use Rattle.call.specs.declared.Reply.{Reply}
+use Rattle.rules.specs.Model.{Model, FitsBytes, controller}
 use Rattle.rules.specs.State.{State}
 use Rattle.rules.specs.StateRight.{stateRight}
 use Rattle.rules.specs.Layout.{pack, stateOf}
 use Rattle.rules.specs.AreaRight.{wellFormed}
+use Rattle.rules.proofs.Controller.{controller-fits}
 use Rattle.rules.proofs.RoundTrip.{pack-state, state-right}
+use Rattle.history.proofs.InTheWay.{in-the-way}
 use Rattle.pick.specs.Pick.{negativeAt, picked}
 use Rattle.pick.proofs.PicksRight.{picks-right}
 use Rattle.wearset.specs.WearSet.{groupCount}
@@ -29,14 +30,14 @@ use Rattle.levelling.specs.AsCalls.{admitted}
 use Rattle.levelling.specs.AtC.{WearAtC}
 use Rattle.levelling.proofs.Cases.{wear-case}
 use Rattle.levelling.proofs.ReadLaws.{is-begun}
-use Rattle.levelling.proofs.Leaves.{refused-ten}
+use Rattle.levelling.proofs.Leaves.{Conflict, refused-read}
 
 -- the codes that come before the first read
 abbrev Early : ℕ → Type 0
 Early code = (code ≡ 1) ⊎ (code ≡ 32) ⊎ (code ≡ 3) ⊎ (code ≡ 4)
 
 -- none of them comes later
-early : (code : ℕ) → Early code → (1 ≤ code) × (code ≤ 32) × (code ≡ 10 → ⊥)
+early : (code : ℕ) → Early code → (1 ≤ code) × (code ≤ 32) × (code ≡ 14 → ⊥) × (code ≡ 10 → ⊥)
 early code = elim [ inl e ↦ omega arith | inr (inl e) ↦ omega arith | inr (inr (inl e)) ↦ omega arith | inr (inr (inr e)) ↦ omega arith ]
 
 -- each part is below the next one's weight, the code is not 1, and with an early code the state is as it was
@@ -57,7 +58,7 @@ number-parts S w f =
     let word = f .word-fits in
     (omega arith, omega arith, omega arith, omega arith)
 
-module _ (M : Model) (S : State) (set : List ℕ) (slot : ℕ) (right : stateRight M S ≡ true) where
+module _ (M : Model) (model-fits : FitsBytes M) (S : State) (set : List ℕ) (slot : ℕ) (right : stateRight M S ≡ true) where
   -- a refusal has kind and word 0
   refusing-fits : (place code : ℕ) (T : State) → 1 < code → code < 2 ^ 8 → (Early code → T ≡ S) → Fits S (refusing place code T)
   refusing-fits place code T low high kept =
@@ -83,21 +84,25 @@ module _ (M : Model) (S : State) (set : List ℕ) (slot : ℕ) (right : stateRig
     judge-fits words T none = write-fits words T (picked words (groupCount set)) refl
     judge-fits words T (some place) = refusing-fits place 33 T (lit< tt) (lit< tt) (λ c. let low = early 33 c .1 in absurd (omega arith))
 
-    -- 10 with nothing beside it, or one of those
+    -- a core code: 14 with a slot's number, which is a byte, or 10 with nothing beside it
+    stopped-fits : (place : ℕ) (reply : Reply) (T : State) → Conflict S set slot (getD set place 0) reply → Fits S (levelling M slot set (stopped place reply T))
+    stopped-fits place reply T (inl (taken, said)) =
+        let who = in-the-way S (pred slot) (getD set place 0) taken M (is-begun M S set slot right adm .right) slot refl in
+        rw said
+        (record {
+          code-fits = lit< tt;
+          kind-fits = lit< tt;
+          word-fits = omega (arith, who .toLast, model-fits .slots-fit);
+          not-one = λ one. omega arith;
+          kept = λ c. absurd (early 14 c .2 refl);
+        })
+    stopped-fits place reply T (inr (free, new, said)) =
+        rw said (refusing-fits place 10 T (lit< tt) (lit< tt) (λ c. absurd (early 10 c .3 refl)))
+
+    -- .. or one of those
     reads-fit : (r : Reading) → readFirst M S slot set (length set) ≡ r → Fits S (levelling M slot set r)
     reads-fit (going words T) e = judge-fits words T (negativeAt words (groupCount set))
-    reads-fit (stopped place reply T) e =
-        let ten = refused-ten M S set slot right adm place reply T e in
-        let bare = refusal-bare reply (omega arith) in
-        let kind = bare .0 in
-        let word = bare .1 in
-        record {
-          code-fits = omega arith;
-          kind-fits = omega arith;
-          word-fits = omega arith;
-          not-one = λ one. omega arith;
-          kept = λ c. absurd (early (replyCode reply) c .2 ten);
-        }
+    reads-fit (stopped place reply T) e = stopped-fits place reply T (refused-read M S set slot right adm place reply T e)
 
   -- so of the operation on any well-formed state
   wear-fits : Fits S (wear M S set slot)
@@ -114,7 +119,7 @@ module _ (l set : List ℕ) (slot r : ℕ) (l′ : List ℕ) (bytes : Bytes l) (
 
   -- its parts fit
   fits : Fits (stateOf controller l) w
-  fits = wear-fits controller (stateOf controller l) set slot (state-right controller l bytes p)
+  fits = wear-fits controller controller-fits (stateOf controller l) set slot (state-right controller l bytes p)
 
   -- the number's parts
   wear-parts : (r / 2 ^ 48 ≡ w .place) × (r / 2 ^ 40 % 2 ^ 8 ≡ w .code) × (r / 2 ^ 32 % 2 ^ 8 ≡ w .kind) × (r % 2 ^ 32 ≡ w .word)
