@@ -18,6 +18,7 @@ use Rattle.rules.specs.Layout.{pack, stateOf}
 use Rattle.rules.specs.AreaRight.{wellFormed}
 use Rattle.rules.proofs.Controller.{controller-fits}
 use Rattle.rules.proofs.RoundTrip.{pack-state, state-right}
+use Rattle.history.specs.InTheWay.{InTheWay}
 use Rattle.history.proofs.InTheWay.{in-the-way}
 use Rattle.pick.specs.Pick.{negativeAt, picked}
 use Rattle.pick.proofs.PicksRight.{picks-right}
@@ -30,7 +31,7 @@ use Rattle.levelling.specs.AsCalls.{admitted}
 use Rattle.levelling.specs.AtC.{WearAtC}
 use Rattle.levelling.proofs.Cases.{wear-case}
 use Rattle.levelling.proofs.ReadLaws.{is-begun}
-use Rattle.levelling.proofs.Leaves.{Conflict, refused-read}
+use Rattle.levelling.proofs.Leaves.{Conflict, refused-read, leaves}
 
 -- the codes that come before the first read
 abbrev Early : ℕ → Type 0
@@ -85,7 +86,7 @@ module _ (M : Model) (model-fits : FitsBytes M) (S : State) (set : List ℕ) (sl
     judge-fits words T (some place) = refusing-fits place 33 T (lit< tt) (lit< tt) (λ c. let low = early 33 c .1 in absurd (omega arith))
 
     -- a core code: 14 with a slot's number, which is a byte, or 10 with nothing beside it
-    stopped-fits : (place : ℕ) (reply : Reply) (T : State) → Conflict S set slot (getD set place 0) reply → Fits S (levelling M slot set (stopped place reply T))
+    stopped-fits : (place : ℕ) (reply : Reply) (T : State) → Conflict S slot (getD set place 0) reply → Fits S (levelling M slot set (stopped place reply T))
     stopped-fits place reply T (inl (taken, said)) =
         let who = in-the-way S (pred slot) (getD set place 0) taken M (is-begun M S set slot right adm .right) slot refl in
         rw said
@@ -111,6 +112,16 @@ module _ (M : Model) (model-fits : FitsBytes M) (S : State) (set : List ℕ) (sl
       (λ e. refusing-fits 0 32 S (lit< tt) (lit< tt) (λ c. refl)) (λ e. refusing-fits 0 3 S (lit< tt) (lit< tt) (λ c. refl)) (λ e. refusing-fits 0 4 S (lit< tt) (lit< tt) (λ c. refl))
       (λ e. reads-fit e (readFirst M S slot set (length set)) refl) refl
 
+-- 14 comes from a read alone, so once the operation has begun
+held-begun : (M : Model) (S : State) (set : List ℕ) (slot : ℕ) → wear M S set slot .code ≡ 14 → admitted M S set slot ≡ true
+held-begun M S set slot =
+    wear-case M S set slot (λ (w : Levelled) (b : Bool). w .code ≡ 14 → b ≡ true)
+    (λ e. absurd (omega arith)) (λ e. absurd (omega arith)) (λ e. absurd (omega arith)) (λ e. refl)
+
+-- what the number says with code 14
+abbrev Held : List ℕ → List ℕ → ℕ → ℕ → Type 0
+Held l set slot r = (r / 2 ^ 32 % 2 ^ 8 ≡ 2) × InTheWay controller (stateOf controller l) slot (getD set (r / 2 ^ 48) 0) (r % 2 ^ 32)
+
 -- of a well-formed area: what the number and the bytes are
 module _ (l set : List ℕ) (slot r : ℕ) (l′ : List ℕ) (bytes : Bytes l) (p : wellFormed controller l ≡ true) (worn : Worn l set slot r l′) where
   -- what it comes to on the state
@@ -130,6 +141,14 @@ module _ (l set : List ℕ) (slot r : ℕ) (l′ : List ℕ) (bytes : Bytes l) (
   wear-not-one : r / 2 ^ 40 % 2 ^ 8 ≡ 1 → ⊥
   wear-not-one one = fits .not-one (sym (wear-parts .1) ∙ one)
 
+  -- 14: the operation had begun, and its place and word are those of the slot in the way
+  wear-held : r / 2 ^ 40 % 2 ^ 8 ≡ 14 → Held l set slot r
+  wear-held e =
+      let code : w .code ≡ 14 = sym (wear-parts .1) ∙ e in
+      let begun = held-begun controller (stateOf controller l) set slot code in
+      let left = leaves controller .operation (stateOf controller l) set slot (state-right controller l bytes p) begun .readHeld code in
+      rw (wear-parts .0, wear-parts .2, wear-parts .3) left
+
   -- an early code packs the state that was unpacked
   untouched-good : Early (r / 2 ^ 40 % 2 ^ 8) → l′ ≡ l
   unfolding wearOnBytes
@@ -137,15 +156,20 @@ module _ (l set : List ℕ) (slot r : ℕ) (l′ : List ℕ) (bytes : Bytes l) (
 
 -- What C can rely on.
 pub wear-at-c : WearAtC
-unfolding wearOnBytes
+unfolding wearOnBytes levelledNumber
 wear-at-c =
     record {
       definite = λ l set slot r₁ r₂ l₁ l₂ s t. (unique (s .answer) (t .answer), unique (s .bytes) (t .bytes));
       parts = wear-parts;
       areaNever1 = wear-not-one;
+      readHeld = λ l set slot r l′ bytes worn e. tells l set slot r l′ bytes worn e (wellFormed controller l) refl;
       untouched = λ l set slot r l′ bytes worn c. by l set slot r l′ bytes worn c (wellFormed controller l) refl;
     }
   where
     by : (l set : List ℕ) (slot r : ℕ) (l′ : List ℕ) → Bytes l → Worn l set slot r l′ → Early (r / 2 ^ 40 % 2 ^ 8) → (b : Bool) → wellFormed controller l ≡ b → l′ ≡ l
     by l set slot r l′ bytes worn c true p = untouched-good l set slot r l′ bytes p worn c
     by l set slot r l′ bytes worn c false p = rw (worn .bytes, p)
+
+    tells : (l set : List ℕ) (slot r : ℕ) (l′ : List ℕ) → Bytes l → Worn l set slot r l′ → r / 2 ^ 40 % 2 ^ 8 ≡ 14 → (b : Bool) → wellFormed controller l ≡ b → Held l set slot r
+    tells l set slot r l′ bytes worn e true p = wear-held l set slot r l′ bytes p worn e
+    tells l set slot r l′ bytes worn e false p = let one : r ≡ 2 ^ 40 = rw (worn .answer, p) in absurd (omega arith)

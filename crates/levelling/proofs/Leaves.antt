@@ -16,7 +16,6 @@ use Rattle.value.proofs.RoundTrip.{word-back}
 use Rattle.call.specs.declared.Reply.{Reply}
 use Rattle.call.specs.declared.Reply.the-variants.{ReadHeld, ReadNewer}
 use Rattle.call.specs.Answer.{replyCode, replyWord}
-use Rattle.slot.specs.declared.WriteEntry.{WriteEntry}
 use Rattle.slot.specs.Logic.{_or_}
 use Rattle.rules.specs.Model.{Model}
 use Rattle.rules.specs.State.{State, cellAt, slotAt, startOf}
@@ -32,11 +31,17 @@ use Rattle.wearset.specs.WearSet.{groupCount}
 use Rattle.level.specs.Level.{Reading, going, stopped, readAt, readFirst, Levelled, writing, judging, levelling}
 use Rattle.wear.specs.Wear.{wear}
 use Rattle.levelling.specs.AsCalls.{admitted}
-use Rattle.levelling.specs.Leaves.{Left, wordsOf, withLogs, held, tooNew, unreadable, Leaves}
+use Rattle.levelling.specs.Leaves.{Left, wordsOf, withLogs, held, tooNew, unreadable, raised, Written, Leaves}
 use Rattle.levelling.proofs.Cases.{begins}
 use Rattle.levelling.proofs.ReadLaws.{Begun, is-begun, count-write, slot-with, logs-anew, no-logs, map-next, read-next}
 
--- the codes that come once all cells are read are none of the core's
+-- how the core refuses to read a cell: another slot holds it, and it says which; or it is newer
+abbrev pub Conflict : State → ℕ → ℕ → Reply → Type 0
+Conflict S slot c reply =
+    ((held S slot c ≡ true) × (reply ≡ ReadHeld (cellAt S c .holder)))
+    ⊎ ((held S slot c ≡ false) × (tooNew S slot c ≡ true) × (reply ≡ ReadNewer))
+
+-- no code that comes once all cells are read is one of the core's
 no-core : (code : ℕ) → (code ≡ 0) ⊎ (code ≡ 33) ⊎ (code ≡ 34) → (code ≡ 14) ⊎ (code ≡ 10) → ⊥
 no-core code = elim [ inl e ↦ ⊎-elim (omega arith) (omega arith) | inr (inl e) ↦ ⊎-elim (omega arith) (omega arith) | inr (inr e) ↦ ⊎-elim (omega arith) (omega arith) ]
 
@@ -45,28 +50,11 @@ module _ (S : State) (set : List ℕ) (slot : ℕ) where
   abbrev Clear : ℕ → Type 0
   Clear n = (earlier : ℕ) → earlier < n → unreadable S slot (getD set earlier 0) ≡ false
 
-  -- what the core says of a cell that can't be read: its holder is in the way, or it is newer
-  abbrev pub Conflict : ℕ → Reply → Type 0
-  Conflict c reply =
-      ((held S slot c ≡ true) × (reply ≡ ReadHeld (cellAt S c .holder)))
-      ⊎ ((held S slot c ≡ false) × (tooNew S slot c ≡ true) × (reply ≡ ReadNewer))
-
   -- what is known once n cells are to be read
   abbrev pub SoFar : ℕ → Reading → Type 0
   SoFar n (going words T) = (words ≡ wordsOf S (take n set)) × (T ≡ withLogs S slot (take n set) []) × Clear n
   SoFar n (stopped place reply T) =
-      Conflict (getD set place 0) reply × (place < n) × (unreadable S slot (getD set place 0) ≡ true) × Clear place × (T ≡ withLogs S slot (take place set) [])
-
-  -- the entry of the picked group's write
-  abbrev raised : ℕ → WriteEntry
-  raised g = record { cell = getD set (erasesPlace g) 0; word = suc (erases (wordsOf S set) g) }
-
-  -- .. which is what code 0 leaves
-  abbrev Written : Levelled → Type 0
-  Written w =
-      (picked (wordsOf S set) (groupCount set) ≡ some (w .word))
-      × (negativeAt (wordsOf S set) (groupCount set) ≡ none)
-      × (w .state ≡ withLogs S slot set (raised (w .word) ∷ []))
+      Conflict S slot (getD set place 0) reply × (place < n) × (unreadable S slot (getD set place 0) ≡ true) × Clear place × (T ≡ withLogs S slot (take place set) [])
 
   -- how far the reads have come with a step's outcome
   abbrev onward : ℕ → List ℕ → State → Outcome → Reading
@@ -107,7 +95,7 @@ module _ (M : Model) (S : State) (set : List ℕ) (slot : ℕ) (b : Begun M S se
   next n h (stopped place reply T) so = let before = so .1 in (so .0, omega arith, so .2, so .3, so .4)
   next n h (going words T) so = rw (so .0, so .1, read-next M S set slot b n h) (one-read n h (so .2))
 
-  -- after n reads: the words and the log of the first n cells, or the first cell that is in the way
+  -- after n reads: the words and the log of the first n cells, or the first cell that can't be read
   so-far : (n : ℕ) → n ≤ length set → SoFar S set slot n (readFirst M S slot set n)
   unfolding readFirst
   so-far zero h = (refl, sym (no-logs M S set slot b), λ earlier l. absurd (omega arith))
@@ -115,7 +103,7 @@ module _ (M : Model) (S : State) (set : List ℕ) (slot : ℕ) (b : Begun M S se
 
   -- the picked group's write is accepted: its cell is of kind 2, and its count plus one has 32 bits
   write-accepted : (g : ℕ) → picked (wordsOf S set) (groupCount set) ≡ some g
-      → writing M (withLogs S slot set []) slot set (wordsOf S set) (some g) .state ≡ withLogs S slot set (raised S set slot g ∷ [])
+      → writing M (withLogs S slot set []) slot set (wordsOf S set) (some g) .state ≡ withLogs S slot set (raised S set g ∷ [])
   unfolding legalWord
   write-accepted g p =
       let least = picks-right .pick (wordsOf S set) (groupCount set) g p in
@@ -126,17 +114,17 @@ module _ (M : Model) (S : State) (set : List ℕ) (slot : ℕ) (b : Begun M S se
       ap (after (withLogs S slot set []))
       (count-write M (withLogs S slot set []) slot (getD set (erasesPlace g) 0) count _ _ (b .slot-inside) (slot-with M S set slot b set [])
       (b .cell-inside (erasesPlace g) inside) kind legal)
-      ∙ logs-anew M S set slot b set set (raised S set slot g ∷ [])
+      ∙ logs-anew M S set slot b set set (raised S set g ∷ [])
 
-  -- a code that is no core code: all cells are read, and it is settled what was written
+  -- once all cells are read
   past-reads : (w : Levelled) → (w .code ≡ 0) ⊎ (w .code ≡ 33) ⊎ (w .code ≡ 34) → (33 ≤ w .code → w .state ≡ withLogs S slot set []) → (w .code ≡ 0 → Written S set slot w)
       → Left M S set slot w
   past-reads w code unwritten written =
       record {
         codes = ⊎-elim inl (λ other. inr (inr (inr other))) code;
         conflicts = λ core. absurd (no-core (w .code) code core);
-        heldBy = λ e. absurd (no-core (w .code) code (inl e));
-        bare = λ e. absurd (no-core (w .code) code (inr e));
+        readHeld = λ e. absurd (no-core (w .code) code (inl e));
+        readNewer = λ e. absurd (no-core (w .code) code (inr e));
         unwritten = unwritten;
         written = written;
       }
@@ -154,15 +142,15 @@ module _ (M : Model) (S : State) (set : List ℕ) (slot : ℕ) (b : Begun M S se
   judge-ended (some place) e = past-reads _ (inr (inl refl)) (λ d. refl) (λ d. absurd (omega arith))
 
   -- by why a read was refused: 14 with the slot in the way, or 10
-  refused-ended : (place : ℕ) (reply : Reply) (T : State) → SoFar S set slot (length set) (stopped place reply T) → Conflict S set slot (getD set place 0) reply
+  refused-ended : (place : ℕ) (reply : Reply) (T : State) → SoFar S set slot (length set) (stopped place reply T) → Conflict S slot (getD set place 0) reply
       → Left M S set slot (levelling M slot set (stopped place reply T))
   refused-ended place reply T so (inl (taken, said)) =
       rw said
       (record {
         codes = inr (inl refl);
         conflicts = λ e. (so .1, so .2, so .3, so .4);
-        heldBy = λ e. (refl, in-the-way S (pred slot) (getD set place 0) taken M (b .right) slot refl);
-        bare = λ e. absurd (omega arith);
+        readHeld = λ e. (refl, in-the-way S (pred slot) (getD set place 0) taken M (b .right) slot refl);
+        readNewer = λ e. absurd (omega arith);
         unwritten = λ e. absurd (omega arith);
         written = λ e. absurd (omega arith);
       })
@@ -171,8 +159,8 @@ module _ (M : Model) (S : State) (set : List ℕ) (slot : ℕ) (b : Begun M S se
       (record {
         codes = inr (inr (inl refl));
         conflicts = λ e. (so .1, so .2, so .3, so .4);
-        heldBy = λ e. absurd (omega arith);
-        bare = λ e. (refl, refl, free, new);
+        readHeld = λ e. absurd (omega arith);
+        readNewer = λ e. (refl, refl, free, new);
         unwritten = λ e. absurd (omega arith);
         written = λ e. absurd (omega arith);
       })
@@ -188,7 +176,7 @@ module _ (M : Model) (S : State) (set : List ℕ) (slot : ℕ) (right : stateRig
   all-read = so-far M S set slot (is-begun M S set slot right adm) (length set) (omega arith)
 
   -- a read is refused with code 14 or 10 alone
-  pub refused-read : (place : ℕ) (reply : Reply) (T : State) → readFirst M S slot set (length set) ≡ stopped place reply T → Conflict S set slot (getD set place 0) reply
+  pub refused-read : (place : ℕ) (reply : Reply) (T : State) → readFirst M S slot set (length set) ≡ stopped place reply T → Conflict S slot (getD set place 0) reply
   refused-read place reply T e = subst (SoFar S set slot (length set)) e all-read .0
 
   -- .. and what the operation comes to then

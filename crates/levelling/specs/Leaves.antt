@@ -43,6 +43,16 @@ tooNew S slot c = newer (startOf (slotAt S (pred slot))) (cellAt S c)
 abbrev pub unreadable : State → ℕ → ℕ → Bool
 unreadable S slot c = held S slot c or tooNew S slot c
 
+-- the entry of group g's write, and what is answered and left with it: the group that the pick rule gives, with no count negative
+abbrev pub raised : State → List ℕ → ℕ → WriteEntry
+raised S set g = record { cell = getD set (erasesPlace g) 0; word = suc (erases (wordsOf S set) g) }
+
+abbrev pub Written : State → List ℕ → ℕ → Levelled → Type 0
+Written S set slot w =
+    (picked (wordsOf S set) (groupCount set) ≡ some (w .word))
+    × (negativeAt (wordsOf S set) (groupCount set) ≡ none)
+    × (w .state ≡ withLogs S slot set (raised S set (w .word) ∷ []))
+
 -- What an operation w that has begun comes to.
 pub record Left (M : Model) (S : State) (set : List ℕ) (slot : ℕ) (w : Levelled) : Type 0 where
   -- 14 and 10 are the only core codes that can come.
@@ -53,10 +63,10 @@ pub record Left (M : Model) (S : State) (set : List ℕ) (slot : ℕ) (w : Level
       × (unreadable S slot (getD set (w .place) 0) ≡ true)
       × ((earlier : ℕ) → earlier < w .place → unreadable S slot (getD set earlier 0) ≡ false)
       × (w .state ≡ withLogs S slot (take (w .place) set) [])
-  -- 14: kind 2, and the word is the slot in the way, another one, which holds that cell: it is to be waited for.
-  pub heldBy : w .code ≡ 14 → (w .kind ≡ 2) × InTheWay M S slot (getD set (w .place) 0) (w .word)
-  -- 10: kind and word 0. No other slot holds that cell, but its stamp is above the start.
-  pub bare : w .code ≡ 10
+  -- 14: kind 2, and the word is the slot in the way: another one, which holds that cell.
+  pub readHeld : w .code ≡ 14 → (w .kind ≡ 2) × InTheWay M S slot (getD set (w .place) 0) (w .word)
+  -- 10: kind and word 0. No other slot holds that cell; its stamp is above the start.
+  pub readNewer : w .code ≡ 10
       → (w .kind ≡ 0)
       × (w .word ≡ 0)
       × (held S slot (getD set (w .place) 0) ≡ false)
@@ -64,11 +74,7 @@ pub record Left (M : Model) (S : State) (set : List ℕ) (slot : ℕ) (w : Level
   -- 33 and 34 leave all reads in the log, and nothing written.
   pub unwritten : 33 ≤ w .code → w .state ≡ withLogs S slot set []
   -- A group is picked: its write is done. The log has the one entry.
-  pub written : w .code ≡ 0
-      → (picked (wordsOf S set) (groupCount set) ≡ some (w .word))
-      × (negativeAt (wordsOf S set) (groupCount set) ≡ none)
-      × (w .state
-      ≡ withLogs S slot set (record { cell = getD set (erasesPlace (w .word)) 0; word = suc (erases (wordsOf S set) (w .word)) } ∷ []))
+  pub written : w .code ≡ 0 → Written S set slot w
 
 pub record Leaves (M : Model) : Type 0 where
   -- All cells are read: each can be, the words are the shared cells', every cell is in the read log, and nothing is written.
