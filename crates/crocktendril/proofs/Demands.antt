@@ -1,6 +1,7 @@
 -- The three demands: the contracts give one answer, and the theorems about the rules say what it is.
 use mathlib.Core.Bool.{Bool, true, false, cond}
 use mathlib.Core.List.{List, [], _∷_, map}
+use mathlib.Core.Logic.{_⊎_}
 use mathlib.Core.Path.{_≡_, refl, sym, _∙_, ap}
 use Prim.Native.Nat.{ℕ, _/_, _%_, _^_, _<_, _≤_}
 use native.Mathlib.Omega.{arith}
@@ -10,8 +11,9 @@ use Rattle.wire.specs.Field.{Bytes}
 use Rattle.wire.proofs.Unique.{unique}
 use Rattle.slot.specs.Logic.{all}
 use Rattle.rules.specs.declared.Cell.{Cell}
+use Rattle.call.specs.declared.Reply.{Reply}
 use Rattle.call.specs.declared.Reply.the-variants.{NotWellFormed}
-use Rattle.call.specs.Answer.{replyCode, replyKind, replyWord, replyNumber}
+use Rattle.call.specs.Answer.{replyCode, replyKind, replyWord, replyNumber, Refuses, SaysWho}
 use Rattle.call.proofs.Answer.{refusal-bare, number-splits}
 use Rattle.rules.specs.Model.{controller}
 use Rattle.rules.specs.Outcome.{Outcome, replyOf}
@@ -20,34 +22,36 @@ use Rattle.rules.specs.Layout.{pack, stateOf}
 use Rattle.rules.specs.AreaRight.{wellFormed}
 use Rattle.rules.specs.Area.{Laying, Answered, answered, stepOnBytes, atRest, describedCells, fresh, lengthsFit, layOut}
 use Rattle.rules.proofs.Controller.{controller-fits}
-use Rattle.rules.proofs.RoundTrip.{round-trip}
+use Rattle.rules.proofs.RoundTrip.{state-right, round-trip}
 use Rattle.rules.proofs.LaidOut.{laid-right, lays-out}
 use Rattle.history.specs.History.{Event, Demand3}
 use Rattle.history.specs.Keeps.{bytesAfter}
 use Rattle.history.specs.AreaHistory.{areaHistory}
+use Rattle.history.specs.InTheWay.{InTheWay, SaysHeld}
 use Rattle.history.proofs.Keeps.{keeps}
 use Rattle.history.proofs.Keeps.OnBytes.{answered-reply, stepped-packed}
 use Rattle.history.proofs.Histories.{histories}
+use Rattle.history.proofs.InTheWay.{tells-who}
 use Rattle.crocktendril.specs.Contract.{Stepped}
 use Rattle.crocktendril.specs.Demands.{Demand1, Demand2, Made, inTurn, lastLeft, happened, Demand3AtC}
-use Rattle.crocktendril.proofs.Words.{step-word}
+use Rattle.crocktendril.proofs.Words.{formed-word}
 
 abbrev laid : ℕ → List ℕ → Laying
 laid code bytes = record { code = code; bytes = bytes }
 
--- the reply on bytes has a word of 32 bits
-answered-word : (l : List ℕ) (o : Outcome) → replyWord (replyOf o) < 2 ^ 32 → replyWord (answered controller l o .reply) < 2 ^ 32
-answered-word l o h = rw (answered-reply controller l o) h
+-- the reply on bytes is that of the step, or that they are no area
+on-bytes : (P : Reply → Type 0) (l : List ℕ) (call : Call) → P NotWellFormed → (wellFormed controller l ≡ true → P (replyOf (step controller (stateOf controller l) call)))
+    → P (stepOnBytes controller l call .reply)
+unfolding stepOnBytes
+on-bytes P l call unformed formed = by (wellFormed controller l) refl
+  where
+    by : (b : Bool) → wellFormed controller l ≡ b
+        → P (cond b (answered controller l (step controller (stateOf controller l) call)) (record { reply = NotWellFormed; bytes = l }) .reply)
+    by true p = rw (answered-reply controller l (step controller (stateOf controller l) call)) (formed p)
+    by false p = unformed
 
 reply-word : (l : List ℕ) (call : Call) → replyWord (stepOnBytes controller l call .reply) < 2 ^ 32
-unfolding stepOnBytes
-reply-word l call =
-    by (wellFormed controller l) (answered controller l (step controller (stateOf controller l) call)) (record { reply = NotWellFormed; bytes = l })
-    (answered-word l (step controller (stateOf controller l) call) (step-word controller (stateOf controller l) call)) (lit< tt)
-  where
-    by : (b : Bool) (x y : Answered) → replyWord (x .reply) < 2 ^ 32 → replyWord (y .reply) < 2 ^ 32 → replyWord (cond b x y .reply) < 2 ^ 32
-    by true x y p q = p
-    by false x y p q = q
+reply-word l call = on-bytes (λ r. replyWord r < 2 ^ 32) l call (lit< tt) (λ formed. formed-word controller l formed controller-fits call)
 
 splits : (l : List ℕ) (call : Call)
     → (replyNumber (stepOnBytes controller l call .reply) / 2 ^ 40 ≡ replyCode (stepOnBytes controller l call .reply))
@@ -55,16 +59,41 @@ splits : (l : List ℕ) (call : Call)
     × (replyNumber (stepOnBytes controller l call .reply) % 2 ^ 32 ≡ replyWord (stepOnBytes controller l call .reply))
 splits l call = number-splits (stepOnBytes controller l call .reply) (reply-word l call)
 
-refuses : (l : List ℕ) (call : Call) (r : ℕ) (l′ : List ℕ) → Stepped l call r l′ → 1 ≤ r / 2 ^ 40 → r / 2 ^ 40 ≤ 12
-    → (r / 2 ^ 32 % 256 ≡ 0) × (r % 2 ^ 32 ≡ 0) × (l′ ≡ l)
-refuses l call r l′ s low high =
-    let parts = splits l call in
-    let code : r / 2 ^ 40 ≡ replyCode (stepOnBytes controller l call .reply) = rw (s .answer) (parts .0) in
-    let bare = refusal-bare (stepOnBytes controller l call .reply) (omega arith) in (
-      rw (s .answer) (parts .1 ∙ bare .0),
-      rw (s .answer) (parts .2 ∙ bare .1),
-      s .bytes ∙ keeps controller controller-fits .untouched l call (omega arith) (omega arith),
-    )
+module _ (l : List ℕ) (call : Call) (r : ℕ) (l′ : List ℕ) (s : Stepped l call r l′) where
+  abbrev reply : Reply
+  reply = stepOnBytes controller l call .reply
+
+  told-code : r / 2 ^ 40 ≡ replyCode reply
+  told-code = ap (λ n. n / 2 ^ 40) (s .answer) ∙ splits l call .0
+
+  told-kind : r / 2 ^ 32 % 256 ≡ replyKind reply
+  told-kind = ap (λ n. n / 2 ^ 32 % 256) (s .answer) ∙ splits l call .1
+
+  told-word : r % 2 ^ 32 ≡ replyWord reply
+  told-word = ap (λ n. n % 2 ^ 32) (s .answer) ∙ splits l call .2
+
+  untouched : Refuses (r / 2 ^ 40) → l′ ≡ l
+  untouched refuses = s .bytes ∙ keeps controller controller-fits .untouched l call (rw told-code at refuses)
+
+  is-bare : Refuses (r / 2 ^ 40) → (SaysWho (r / 2 ^ 40) → ⊥) → (r / 2 ^ 32 % 256 ≡ 0) × (r % 2 ^ 32 ≡ 0)
+  is-bare refuses who = let bare = refusal-bare reply (rw told-code at (refuses .0)) (rw told-code at who) in (told-kind ∙ bare .0, told-word ∙ bare .1)
+
+  -- what the step on the state says of a holder, the number says
+  says : Bytes l → SaysHeld controller (stateOf controller l) call reply
+  says bytes =
+      on-bytes (SaysHeld controller (stateOf controller l) call) l call
+      (record { read = λ e. absurd (omega arith); lockOrReload = λ e. absurd (omega arith); lockNext = λ e n. absurd (omega arith); reloadFirst = λ e n. absurd (omega arith) })
+      (λ formed. tells-who controller controller-fits .tells (stateOf controller l) call (state-right controller l bytes formed))
+
+  read-held : Bytes l → r / 2 ^ 40 ≡ 14
+      → (call .step ≡ 2) × (r / 2 ^ 32 % 256 ≡ 2) × InTheWay controller (stateOf controller l) (call .slot) (call .cell) (r % 2 ^ 32)
+  read-held bytes code = let who = says bytes .read (sym told-code ∙ code) in (who .0, told-kind ∙ who .1, rw told-word (who .2))
+
+  cell-held : Bytes l → r / 2 ^ 40 ≡ 11
+      → ((call .step ≡ 5) ⊎ (call .step ≡ 10))
+      × (r / 2 ^ 32 % 256 ≡ 2)
+      × InTheWay controller (stateOf controller l) (call .slot) (r % 2 ^ 32 / 256) (r % 2 ^ 32 % 256)
+  cell-held bytes code = let who = says bytes .lockOrReload (sym told-code ∙ code) in (who .0, told-kind ∙ who .1, rw told-word (who .2))
 
 -- a lay-out that is refused writes nothing
 refused-lay-out : (fit legal : Bool) (x : List ℕ) (l : List ℕ)
@@ -79,10 +108,13 @@ demand1 =
     record {
       stepDefinite = λ l call r₁ r₂ l₁ l₂ s t. (unique (s .answer) (t .answer), unique (s .bytes) (t .bytes));
       layOutDefinite = λ l ds r₁ r₂ l₁ l₂ s t. (unique (s .answer) (t .answer), unique (s .bytes) (t .bytes));
-      code = λ l call r l′ s. rw (s .answer) (splits l call .0);
-      kind = λ l call r l′ s. rw (s .answer) (splits l call .1);
-      word = λ l call r l′ s. rw (s .answer) (splits l call .2);
-      refusal = refuses;
+      code = told-code;
+      kind = told-kind;
+      word = told-word;
+      refusal = untouched;
+      bare = is-bare;
+      readHeld = read-held;
+      cellHeld = cell-held;
       layOutRefusal = λ l ds r l′ s h. s .bytes ∙ refused-lay-out (lengthsFit controller l ds) (all (λ (x : Cell). legalWord (x .kind) (x .word)) (describedCells ds))
           (pack controller (fresh controller (describedCells ds))) l (rw (s .answer) at h);
     }

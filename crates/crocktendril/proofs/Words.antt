@@ -1,11 +1,13 @@
--- Every reply of a step has a word of 32 bits: an answer is made of a cell value, and the word of any value that a kind and a word stand for fits.
+-- Every reply of a step has a word of 32 bits: an answer is made of a cell value, and the word of any value that a kind and a word stand for fits; so do a cell and its holder.
 use mathlib.Core.Bool.{Bool, true, false, cond, not}
-use mathlib.Core.List.{map}
+use mathlib.Core.List.{List, map}
+use mathlib.Core.Logic.{⊎-elim}
 use mathlib.Core.Path.{_≡_, refl}
-use Prim.Native.Nat.{ℕ, suc, _-_, _^_, _<_}
+use Prim.Native.Nat.{ℕ, suc, pred, _-_, _^_, _<_, _≤_}
 use native.Mathlib.Omega.{arith}
 use lib.Dec.{eqb, ltb, lit<, leb→le}
-use borrow.Author.Tests.{ltb-true}
+use lib.ListN.{getD}
+use borrow.Author.Tests.{leb-true, ltb-true}
 use lib.Ieee.{binary32, ofBits}
 use lib.Ieee.Bits.{toBits-lt, ofBits-fits}
 use lib.IntN.{pos, negsuc}
@@ -13,19 +15,27 @@ use mir.Syntax.{w32}
 use mir.Val.{toZ, ofZ, sel}
 use Rattle.value.specs.declared.CellValue.the-variants.{Truth, Whole, Real}
 use Rattle.value.specs.Value.{wordOf, valueOf}
+use Rattle.wire.proofs.Laws.Table.{length-tab}
 use Rattle.call.specs.declared.Step.{Step}
 use Rattle.call.specs.declared.Reply.{Reply}
-use Rattle.call.specs.Answer.{replyCode, replyWord}
+use Rattle.call.specs.Answer.{heldWord, replyCode, replyWord}
 use Rattle.call.proofs.Answer.{refusal-bare}
+use Rattle.slot.specs.Layout.{empty}
 use Rattle.slot.specs.Logs.{someMarked}
-use Rattle.rules.specs.Model.{Model}
-use Rattle.rules.specs.Cells.{withMark}
-use Rattle.rules.specs.State.{State, cellAt}
-use Rattle.rules.specs.Outcome.{replyOf}
+use Rattle.slot.proofs.Logic.{and-left, and-right}
+use Rattle.rules.specs.Model.{Model, FitsBytes}
+use Rattle.rules.specs.Cells.{withMark, heldByOther}
+use Rattle.rules.specs.State.{State, cellCount, cellAt}
+use Rattle.rules.specs.LogsRight.{cellCountRight}
+use Rattle.rules.specs.Layout.{countIn, cellsIn, recordsIn, stateOf}
+use Rattle.rules.specs.AreaRight.{wellFormedButHolders, recordHolds, areaHoldersRight, wellFormed}
+use Rattle.rules.specs.Outcome.{Outcome, refused, accepted, replyOf}
 use Rattle.rules.specs.Step.{Call, step}
-use Rattle.history.proofs.Cases.{Refusal}
-use Rattle.history.proofs.Move.{Move, began, read-written, read-again, read-first, wrote, closed, locked, entered, reread-done, updated, ask-done, reloading, ignored, nothing-to-ignore, aborted, committed, published, gave-up}
-use Rattle.history.proofs.StepCase.{step-case}
+use Rattle.rules.proofs.PackBytes.{holder-within}
+use Rattle.history.proofs.Cases.{Bare}
+use Rattle.history.proofs.Move.{Move, began, read-written, read-again, read-first, wrote, closed, locked, entered, reread-done, updated, ask-done, reloading, ignored, nothing-to-ignore, aborted, committed, published, gave-up, barely, read-held, lock-held, reload-held, Lawful}
+use Rattle.history.proofs.StepCase.{lawful-case}
+use Rattle.history.proofs.InTheWay.{held-inside, obstacle-held}
 
 bit-word : (b : Bool) → cond b 1 0 < 2 ^ 32
 bit-word true = lit< tt
@@ -68,11 +78,39 @@ move-word (committed x m) = lit< tt
 move-word (published x e) = lit< tt
 move-word (gave-up x) = lit< tt
 
-refusal-word : (r : Reply) → Refusal r → replyWord r < 2 ^ 32
-refusal-word r k =
-    let low = leb→le 2 (replyCode r) (k .0) in
-    let bare = refusal-bare r (omega arith) .1 in
+-- a bare refusal has word 0; a holder, and a cell with its holder, fit where both are bytes
+bare-word : (r : Reply) → Bare r → replyWord r < 2 ^ 32
+bare-word r k =
+    let low = leb→le 2 (replyCode r) (k .0 .0) in
+    let bare = refusal-bare r (λ e. omega arith) (⊎-elim (λ e. rw e at (k .1)) (λ e. rw e at (k .2))) .1 in
     omega arith
 
-pub step-word : (M : Model) (S : State) (a : Call) → replyWord (replyOf (step M S a)) < 2 ^ 32
-step-word M S a = step-case M S (λ o. replyWord (replyOf o) < 2 ^ 32) refusal-word a (λ s made h r T m. move-word m)
+module _ (M : Model) (S : State) (holders : (c : ℕ) → cellAt S c .holder < 256) (cells : cellCount S ≤ 256) where
+  held-word : (i c : ℕ) → heldByOther i (cellAt S c) ≡ true → heldWord c (cellAt S c .holder) < 2 ^ 32
+  held-word i c held = omega (arith, holders c, held-inside S i c held)
+
+  lawful-word : (i : ℕ) (s : Step) (o : Outcome) → Lawful M S i s o → replyWord (replyOf o) < 2 ^ 32
+  lawful-word i s (accepted r T) m = move-word m
+  lawful-word i s (refused r) (barely k) = bare-word r k
+  lawful-word i s (refused r) (read-held {c = c} held) = omega (arith, holders c)
+  lawful-word i s (refused r) (lock-held {c = c} x same held) = held-word i c held
+  lawful-word i s (refused r) (reload-held {e = e} x o) = held-word i (e .cell) (obstacle-held S i _ e o)
+
+  pub step-word : (a : Call) → replyWord (replyOf (step M S a)) < 2 ^ 32
+  step-word a = lawful-case M S (λ o. replyWord (replyOf o) < 2 ^ 32) bare-word a (λ s made h. lawful-word (pred (a .slot)) s)
+
+-- .. as they are in every area that is well formed: a cell's holder is a slot of the model or none, and there are as many cells as the model can have at most
+module _ (M : Model) (l : List ℕ) (formed : wellFormed M l ≡ true) where
+  formed-holder : (c : ℕ) → cellAt (stateOf M l) c .holder ≤ M .slots
+  unfolding wellFormed areaHoldersRight stateOf
+  formed-holder = holder-within (cellsIn M l) (M .slots) (λ s c. recordHolds (getD (recordsIn M l) s empty) c) (and-right (wellFormedButHolders M l) _ formed)
+
+  formed-count : cellCount (stateOf M l) ≤ M .cells
+  unfolding wellFormed wellFormedButHolders cellCountRight stateOf cellsIn
+  formed-count =
+      let but-holders = and-left (wellFormedButHolders M l) _ formed in
+      let counted : cellCountRight M (countIn l) ≡ true = and-left _ _ (and-right _ _ (and-right _ _ but-holders)) in
+      rw (length-tab (countIn l)) (leb-true _ _ (and-right _ _ counted))
+
+  pub formed-word : FitsBytes M → (a : Call) → replyWord (replyOf (step M (stateOf M l) a)) < 2 ^ 32
+  formed-word fits = step-word M (stateOf M l) (λ c. omega (arith, fits .slots-fit, formed-holder c)) (omega (arith, fits .cells-fit, formed-count))

@@ -1,10 +1,11 @@
 -- The three demands of the two functions, as statements about what their contracts allow. In quotation marks: the demands' own words.
 use mathlib.Core.Bool.{true}
 use mathlib.Core.List.{List, [], _∷_, map}
+use mathlib.Core.Logic.{_⊎_}
 use mathlib.Core.Path.{_≡_}
 use Prim.Native.Nat.{ℕ, _/_, _%_, _^_, _≤_}
 use Rattle.wire.specs.Field.{Bytes}
-use Rattle.call.specs.Answer.{replyCode, replyKind, replyWord, replyNumber}
+use Rattle.call.specs.Answer.{replyCode, replyKind, replyWord, replyNumber, Refuses, SaysWho}
 use Rattle.rules.specs.Model.{controller}
 use Rattle.rules.specs.State.{State}
 use Rattle.rules.specs.StateRight.{stateRight}
@@ -15,6 +16,7 @@ use Rattle.rules.specs.Area.{stepOnBytes, atRest}
 use Rattle.rules.specs.RoundTrip.{RoundTrip}
 use Rattle.history.specs.History.{Event, Demand3}
 use Rattle.history.specs.AreaHistory.{areaHistory}
+use Rattle.history.specs.InTheWay.{InTheWay}
 use Rattle.fresh.specs.LaidOut.{LaidOut}
 use Rattle.crocktendril.specs.Contract.{Stepped}
 
@@ -27,9 +29,19 @@ pub record Demand1 : Type 0 where
   pub code : (l : List ℕ) (call : Call) (r : ℕ) (l′ : List ℕ) → Stepped l call r l′ → r / 2 ^ 40 ≡ replyCode (stepOnBytes controller l call .reply)
   pub kind : (l : List ℕ) (call : Call) (r : ℕ) (l′ : List ℕ) → Stepped l call r l′ → r / 2 ^ 32 % 256 ≡ replyKind (stepOnBytes controller l call .reply)
   pub word : (l : List ℕ) (call : Call) (r : ℕ) (l′ : List ℕ) → Stepped l call r l′ → r % 2 ^ 32 ≡ replyWord (stepOnBytes controller l call .reply)
-  -- "A refused call gives its listed code with kind and word zero, and changes no byte of the area."
-  pub refusal : (l : List ℕ) (call : Call) (r : ℕ) (l′ : List ℕ) → Stepped l call r l′ → 1 ≤ r / 2 ^ 40 → r / 2 ^ 40 ≤ 12
-      → (r / 2 ^ 32 % 256 ≡ 0) × (r % 2 ^ 32 ≡ 0) × (l′ ≡ l)
+  -- "A refused call gives its listed code with kind and word zero, and changes no byte of the area." A refusal is every code but 0 and 13: each changes no byte ..
+  pub refusal : (l : List ℕ) (call : Call) (r : ℕ) (l′ : List ℕ) → Stepped l call r l′ → Refuses (r / 2 ^ 40) → l′ ≡ l
+  -- .. and each but 11 and 14, which say who is in the way, has kind and word zero.
+  pub bare : (l : List ℕ) (call : Call) (r : ℕ) (l′ : List ℕ) → Stepped l call r l′ → Refuses (r / 2 ^ 40) → (SaysWho (r / 2 ^ 40) → ⊥)
+      → (r / 2 ^ 32 % 256 ≡ 0) × (r % 2 ^ 32 ≡ 0)
+  -- What these two say, of an area of bytes: 14, of a read alone, has kind 2, and the word is the slot in the way, which holds the cell that was to be read ..
+  pub readHeld : (l : List ℕ) (call : Call) (r : ℕ) (l′ : List ℕ) → Stepped l call r l′ → Bytes l → r / 2 ^ 40 ≡ 14
+      → (call .step ≡ 2) × (r / 2 ^ 32 % 256 ≡ 2) × InTheWay controller (stateOf controller l) (call .slot) (call .cell) (r % 2 ^ 32)
+  -- .. and 11, of a lock or a reload, has kind 2, and the word is cell × 256 + holder: that slot holds that cell.
+  pub cellHeld : (l : List ℕ) (call : Call) (r : ℕ) (l′ : List ℕ) → Stepped l call r l′ → Bytes l → r / 2 ^ 40 ≡ 11
+      → ((call .step ≡ 5) ⊎ (call .step ≡ 10))
+      × (r / 2 ^ 32 % 256 ≡ 2)
+      × InTheWay controller (stateOf controller l) (call .slot) (r % 2 ^ 32 / 256) (r % 2 ^ 32 % 256)
   pub layOutRefusal : (l ds : List ℕ) (r : ℕ) (l′ : List ℕ) → LaidOut l ds r l′ → 1 ≤ r → l′ ≡ l
 
 -- Demand 2

@@ -75,15 +75,16 @@ module _ (S : State) (i c : ℕ) (held : heldByOther i (cellAt S c) ≡ true) wh
           holding = holding (cellAt S c .holder) refl most some-holder;
         }
 
+-- a reload's obstacle is held by another slot
+pub obstacle-held : (S : State) (i : ℕ) (reads : List ReadEntry) (y : ReadEntry) → obstacle S i reads ≡ some y → heldByOther i (cellAt S (y .cell)) ≡ true
+unfolding obstacle
+obstacle-held S i reads y o = found-passes (λ (e : ReadEntry). heldByOther i (cellAt S (e .cell))) reads y o
+
 module _ (M : Model) (fits : FitsBytes M) (S : State) (right : Right M S) (a : Call) where
   abbrev i : ℕ
   i = pred (a .slot)
 
-  -- the obstacle is held by another slot, and nothing before it is
-  obstacle-held : (reads : List ReadEntry) (y : ReadEntry) → obstacle S i reads ≡ some y → heldByOther i (cellAt S (y .cell)) ≡ true
-  unfolding obstacle
-  obstacle-held reads y o = found-passes (λ (e : ReadEntry). heldByOther i (cellAt S (e .cell))) reads y o
-
+  -- and nothing before the obstacle is
   obstacle-first : (reads : List ReadEntry) (y : ReadEntry) → obstacle S i reads ≡ some y → {c : ℕ} → c ≡ y .cell
       → (place : ℕ)
       × (place < length reads)
@@ -137,7 +138,7 @@ module _ (M : Model) (fits : FitsBytes M) (S : State) (right : Right M S) (a : C
       }
   said s r made (reload-held {e = y} {reads = reads} x o) =
       let number : a .step ≡ 10 = number-back (a .step) (a .cell) (a .kind) (a .word) Reload made in
-      let held : heldByOther i (cellAt S (y .cell)) ≡ true = obstacle-held reads y o in
+      let held : heldByOther i (cellAt S (y .cell)) ≡ true = obstacle-held S i reads y o in
       record {
         read = λ e. absurd (omega arith);
         lockOrReload = λ e. (inr number, refl, at-cell (y .cell) held);

@@ -14,6 +14,7 @@ use Rattle.rules.specs.State.{State, Slot, idle, cellCount, cellAt, slotAt, com
 use Rattle.rules.specs.LogsRight.{cellRight, cellCountRight, stampsApart, holdersRight}
 use Rattle.rules.specs.StateRight.{slotRight, holds, shapeRight, stateRightButHolders, stateHoldersRight, stateRight}
 use Rattle.slot.proofs.Logic.{and-left, and-right, or-right, every-at, all-at}
+use Rattle.rules.proofs.PackBytes.{holder-within}
 
 pub record Right (M : Model) (S : State) : Type 0 where
   pub clock-last : S .clock ≤ lastStamp M
@@ -95,14 +96,14 @@ module _ (M : Model) (S : State) (right : stateRight M S ≡ true) where
       (every-at (length (S .slots)) (λ t. same (eqb (cellAt S c .holder) (suc t)) (holds (slotAt S t) c)) (and-right _ _ (holder-test c h)) s (rw count-of b))
 
   pub right-of : Right M S
-  unfolding stateRightButHolders shapeRight
+  unfolding stateRightButHolders shapeRight stateRight stateHoldersRight
   right-of =
       record {
         clock-last = leb-true _ _ (and-left _ _ (and-left _ _ but-holders));
         slot-count = count-of;
         cell-count = and-left _ _ (and-right _ _ but-holders);
         cell = all-at (cellRight (S .clock)) (S .cells) noCell (and-left _ _ (and-right _ _ (and-right _ _ but-holders)));
-        holder-slot = λ c h. rw (← count-of) (leb-true _ _ (and-left _ _ (holder-test c h)));
+        holder-slot = λ c h. rw (← count-of) (holder-within (S .cells) (length (S .slots)) (λ s d. holds (slotAt S s) d) (and-right _ _ right) c);
         slot = slots-of;
         apart = λ s t d e. by-order s t d e (ltb s t) refl;
         held = held-of;

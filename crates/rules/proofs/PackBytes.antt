@@ -1,12 +1,12 @@
 -- A well-formed state packs to bytes: whatever has one byte is below 256.
 use mathlib.Core.Bool.{Bool, true, false}
 use mathlib.Core.List.{List, [], _∷_, _++_}
-use mathlib.Core.Path.{_≡_}
+use mathlib.Core.Path.{_≡_, refl}
 use Prim.Native.Nat.{ℕ, suc, _<_, _≤_}
 use native.Mathlib.Omega.{arith}
-use lib.Dec.{eqb, leb, lit<}
-use lib.ListN.{length, getD}
-use borrow.Author.Tests.{leb-true, ltb-true}
+use lib.Dec.{eqb, ltb, leb, lit<}
+use lib.ListN.{length, getD, List·getD-eq-default}
+use borrow.Author.Tests.{leb-true, ltb-true, ltb-false}
 use Rattle.value.proofs.RoundTrip.{legal-kind}
 use Rattle.wire.specs.Field.{Bytes, toBe}
 use Rattle.wire.specs.Table.{cat}
@@ -85,17 +85,21 @@ module _ (cells : List Cell) (clock : ℕ) (few : length cells < 256) where
       let below : taken < length writes = ltb-true _ _ (and-left _ _ (and-right _ _ p)) in
       busy-is-bytewise 4 ignoring taken start commit reads writes (logs-hold cells clock start reads writes (and-left _ _ p)) (lit< tt) (omega arith)
 
-holder-bound : (S : State) → stateHoldersRight S ≡ true → (c : ℕ) → c < cellCount S → cellAt S c .holder ≤ length (S .slots)
-unfolding stateHoldersRight holdersRight
-holder-bound S p c h =
-    leb-true _ _
-    (and-left _ _
-    (every-at (length (S .cells))
-    (λ d. leb (getD (S .cells) d noCell .holder) (length (S .slots)) and every (length (S .slots)) (λ s. same (eqb (getD (S .cells) d noCell .holder) (suc s)) (holds (slotAt S s) d)))
-    p c h))
+-- a cell's holder is no slot beyond the last, whether the cell is there or not
+pub holder-within : (cells : List Cell) (slots : ℕ) (holding : ℕ → ℕ → Bool) → holdersRight cells slots holding ≡ true → (c : ℕ) → getD cells c noCell .holder ≤ slots
+unfolding holdersRight
+holder-within cells slots holding p c = by (ltb c (length cells)) refl
+  where
+    by : (b : Bool) → ltb c (length cells) ≡ b → getD cells c noCell .holder ≤ slots
+    by true e =
+        leb-true _ _
+        (and-left _ _
+        (every-at (length cells)
+        (λ d. leb (getD cells d noCell .holder) slots and every slots (λ s. same (eqb (getD cells d noCell .holder) (suc s)) (holding s d))) p c (ltb-true _ _ e)))
+    by false e = rw (List·getD-eq-default cells noCell {n = c} (ltb-false _ _ e)) (omega arith)
 
 pub pack-bytes : (M : Model) → FitsBytes M → (S : State) → stateRightButHolders M S ≡ true → stateHoldersRight S ≡ true → Bytes (pack M S)
-unfolding pack header stateRightButHolders cellCountRight shapeRight
+unfolding pack header stateRightButHolders stateHoldersRight cellCountRight shapeRight
 pack-bytes M fits S right holders =
     let few : cellCount S ≤ M .cells = leb-true _ _ (and-right _ _ (and-left _ _ (and-right _ _ right))) in
     let fit = fits .cells-fit in
@@ -107,7 +111,7 @@ pack-bytes M fits S right holders =
     (bytes-cons (M .version) (toBe 4 (areaLength M (cellCount S))) (fits .version-fits) (toBe-bytes 4 (areaLength M (cellCount S))))
     (bytes-cons (cellCount S) (toBe (M .stampBytes) (S .clock)) (omega arith) (toBe-bytes (M .stampBytes) (S .clock))))
     (bytes-cat (cellCount S) (λ c. cellBytes (M .stampBytes) (cellAt S c))
-    (λ c h. cell-is-bytes M fits (S .clock) (cellAt S c) (all-at (cellRight (S .clock)) (S .cells) noCell (and-left _ _ rest) c h) (rw (← count) (holder-bound S holders c h)))))
+    (λ c h. cell-is-bytes M fits (S .clock) (cellAt S c) (all-at (cellRight (S .clock)) (S .cells) noCell (and-left _ _ rest) c h) (rw (← count) (holder-within (S .cells) (length (S .slots)) (λ s d. holds (slotAt S s) d) holders c)))))
     (bytes-cat (M .slots) (λ s. slotBytes (M .stampBytes) (lay (slotAt S s)))
     (λ s h.
     slot-bytes (M .stampBytes) (lay (slotAt S s))
