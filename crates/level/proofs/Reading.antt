@@ -25,11 +25,12 @@ use Rattle.rules.specs.Steps.{readShared, read}
 use Rattle.rules.specs.Step.{stepOf, step}
 use Rattle.rules.specs.Layout.{pack}
 use Rattle.rules.proofs.Cases.{cond-case, found-case, open-case}
+use Rattle.rules.proofs.Controller.{controller-fits}
 use Rattle.history.proofs.Keeps.Lists.{cond-elim}
 use Rattle.area.specs.Good.{Good, stateIn}
 use Rattle.area.proofs.Good.{good-kept}
 use Rattle.ways.specs.Did.{Did}
-use Rattle.crocktendril.proofs.Words.{step-word}
+use Rattle.crocktendril.proofs.Words.{formed-word}
 use Rattle.level.specs.Level.{readOf, Reading, going, stopped, readAt, readFirst}
 use Rattle.level.specs.Reached.{Going, Stopped, Reached}
 use Rattle.level.proofs.CoreStep.{Stepping, stepping}
@@ -78,7 +79,7 @@ module _ (l : List ℕ) (slot c : ℕ) (good : Good l) {reply : Reply} {l′ : L
   read-stepping = stepping l good (readOf slot c) did
 
   word-fits : replyWord reply < 2 ^ 32
-  word-fits = rw (read-stepping .reply-is) (step-word controller (stateIn l) (readOf slot c))
+  word-fits = rw (read-stepping .reply-is) (formed-word controller l (good .right) controller-fits (readOf slot c))
 
   -- .. so there is room for the place above its number
   pub read-number : (number : ℕ) → number ≡ replyNumber reply → number < 2 ^ 44

@@ -1,7 +1,7 @@
 -- What the reads give, and what the operation leaves in the logs: by induction over the set's cells, one read after the other.
 use mathlib.Core.Bool.{Bool, true, false, cond}
 use mathlib.Core.List.{List, [], _∷_, _++_}
-use mathlib.Core.Logic.{inl, inr}
+use mathlib.Core.Logic.{_⊎_, inl, inr, ⊎-elim}
 use mathlib.Core.Option.{Option, none, some}
 use mathlib.Core.Path.{_≡_, refl, sym, _∙_, ap, subst}
 use Prim.Native.Nat.{ℕ, zero, suc, pred, _^_, _<_, _≤_}
@@ -16,8 +16,6 @@ use Rattle.value.proofs.RoundTrip.{word-back}
 use Rattle.call.specs.declared.Reply.{Reply}
 use Rattle.call.specs.declared.Reply.the-variants.{ReadHeld, ReadNewer}
 use Rattle.call.specs.Answer.{replyCode, replyWord}
-use Rattle.call.proofs.Answer.{refusal-bare}
-use Rattle.slot.specs.declared.WriteEntry.{WriteEntry}
 use Rattle.slot.specs.Logic.{_or_}
 use Rattle.rules.specs.Model.{Model}
 use Rattle.rules.specs.State.{State, cellAt, slotAt, startOf}
@@ -25,31 +23,38 @@ use Rattle.rules.specs.StateRight.{stateRight}
 use Rattle.rules.specs.Cells.{heldByOther, newer}
 use Rattle.rules.specs.Outcome.{Outcome, accepted, replyOf, after, refuseIf}
 use Rattle.rules.specs.Steps.{answer}
+use Rattle.history.proofs.InTheWay.{in-the-way}
 use Rattle.pick.specs.Groups.{erasesPlace, erases}
 use Rattle.pick.specs.Pick.{negativeAt, picked}
 use Rattle.pick.proofs.PicksRight.{picks-right}
 use Rattle.wearset.specs.WearSet.{groupCount}
-use Rattle.level.specs.Level.{Reading, going, stopped, readAt, readFirst, writing, judging, levelling}
+use Rattle.level.specs.Level.{Reading, going, stopped, readAt, readFirst, Levelled, writing, judging, levelling}
 use Rattle.wear.specs.Wear.{wear}
 use Rattle.levelling.specs.AsCalls.{admitted}
-use Rattle.levelling.specs.Leaves.{Left, wordsOf, withLogs, inTheWay, Leaves}
+use Rattle.levelling.specs.Leaves.{Left, wordsOf, withLogs, held, tooNew, unreadable, raised, Written, Leaves}
 use Rattle.levelling.proofs.Cases.{begins}
 use Rattle.levelling.proofs.ReadLaws.{Begun, is-begun, count-write, slot-with, logs-anew, no-logs, map-next, read-next}
 
+-- how the core refuses to read a cell: another slot holds it, and it says which; or it is newer
+abbrev pub Conflict : State → ℕ → ℕ → Reply → Type 0
+Conflict S slot c reply =
+    ((held S slot c ≡ true) × (reply ≡ ReadHeld (cellAt S c .holder)))
+    ⊎ ((held S slot c ≡ false) × (tooNew S slot c ≡ true) × (reply ≡ ReadNewer))
+
+-- no code that comes once all cells are read is one of the core's
+no-core : (code : ℕ) → (code ≡ 0) ⊎ (code ≡ 33) ⊎ (code ≡ 34) → (code ≡ 14) ⊎ (code ≡ 10) → ⊥
+no-core code = elim [ inl e ↦ ⊎-elim (omega arith) (omega arith) | inr (inl e) ↦ ⊎-elim (omega arith) (omega arith) | inr (inr e) ↦ ⊎-elim (omega arith) (omega arith) ]
+
 module _ (S : State) (set : List ℕ) (slot : ℕ) where
-  -- none of the first n cells is in the way
+  -- each of the first n cells can be read
   abbrev Clear : ℕ → Type 0
-  Clear n = (earlier : ℕ) → earlier < n → inTheWay S slot (getD set earlier 0) ≡ false
+  Clear n = (earlier : ℕ) → earlier < n → unreadable S slot (getD set earlier 0) ≡ false
 
   -- what is known once n cells are to be read
   abbrev pub SoFar : ℕ → Reading → Type 0
   SoFar n (going words T) = (words ≡ wordsOf S (take n set)) × (T ≡ withLogs S slot (take n set) []) × Clear n
   SoFar n (stopped place reply T) =
-      (replyCode reply ≡ 10) × (place < n) × (inTheWay S slot (getD set place 0) ≡ true) × Clear place × (T ≡ withLogs S slot (take place set) [])
-
-  -- the entry of the picked group's write
-  abbrev raised : ℕ → WriteEntry
-  raised g = record { cell = getD set (erasesPlace g) 0; word = suc (erases (wordsOf S set) g) }
+      Conflict S slot (getD set place 0) reply × (place < n) × (unreadable S slot (getD set place 0) ≡ true) × Clear place × (T ≡ withLogs S slot (take place set) [])
 
   -- how far the reads have come with a step's outcome
   abbrev onward : ℕ → List ℕ → State → Outcome → Reading
@@ -76,12 +81,12 @@ module _ (M : Model) (S : State) (set : List ℕ) (slot : ℕ) (b : Begun M S se
             (refuseIf held (ReadHeld (cellAt S c .holder))
             (refuseIf new ReadNewer
             (accepted (answer S c (cellAt S c .word)) (withLogs S slot (take (suc n) set) [])))))
-        by true new p q = (refl, omega arith, rw p, clear, refl)
-        by false true p q = (refl, omega arith, rw (p, q), clear, refl)
+        by true new p q = (inl (p, refl), omega arith, rw p, clear, refl)
+        by false true p q = (inr (p, q, refl), omega arith, rw (p, q), clear, refl)
         by false false p q = (
           rw (word-back (cellAt S c .kind) (cellAt S c .word) (b .cell-legal c (b .cell-inside n h))) (sym (map-next M S set slot b (λ d. cellAt S d .word) n h)),
           refl,
-          λ earlier l. below-more (λ k. inTheWay S slot (getD set k 0) ≡ false) n clear (rw (p, q)) earlier (omega arith),
+          λ earlier l. below-more (λ k. unreadable S slot (getD set k 0) ≡ false) n clear (rw (p, q)) earlier (omega arith),
         )
 
   -- the next read, if none was refused yet
@@ -90,7 +95,7 @@ module _ (M : Model) (S : State) (set : List ℕ) (slot : ℕ) (b : Begun M S se
   next n h (stopped place reply T) so = let before = so .1 in (so .0, omega arith, so .2, so .3, so .4)
   next n h (going words T) so = rw (so .0, so .1, read-next M S set slot b n h) (one-read n h (so .2))
 
-  -- after n reads: the words and the log of the first n cells, or the first cell that is in the way
+  -- after n reads: the words and the log of the first n cells, or the first cell that can't be read
   so-far : (n : ℕ) → n ≤ length set → SoFar S set slot n (readFirst M S slot set n)
   unfolding readFirst
   so-far zero h = (refl, sym (no-logs M S set slot b), λ earlier l. absurd (omega arith))
@@ -98,7 +103,7 @@ module _ (M : Model) (S : State) (set : List ℕ) (slot : ℕ) (b : Begun M S se
 
   -- the picked group's write is accepted: its cell is of kind 2, and its count plus one has 32 bits
   write-accepted : (g : ℕ) → picked (wordsOf S set) (groupCount set) ≡ some g
-      → writing M (withLogs S slot set []) slot set (wordsOf S set) (some g) .state ≡ withLogs S slot set (raised S set slot g ∷ [])
+      → writing M (withLogs S slot set []) slot set (wordsOf S set) (some g) .state ≡ withLogs S slot set (raised S set g ∷ [])
   unfolding legalWord
   write-accepted g p =
       let least = picks-right .pick (wordsOf S set) (groupCount set) g p in
@@ -109,34 +114,60 @@ module _ (M : Model) (S : State) (set : List ℕ) (slot : ℕ) (b : Begun M S se
       ap (after (withLogs S slot set []))
       (count-write M (withLogs S slot set []) slot (getD set (erasesPlace g) 0) count _ _ (b .slot-inside) (slot-with M S set slot b set [])
       (b .cell-inside (erasesPlace g) inside) kind legal)
-      ∙ logs-anew M S set slot b set set (raised S set slot g ∷ [])
+      ∙ logs-anew M S set slot b set set (raised S set g ∷ [])
+
+  -- once all cells are read
+  past-reads : (w : Levelled) → (w .code ≡ 0) ⊎ (w .code ≡ 33) ⊎ (w .code ≡ 34) → (33 ≤ w .code → w .state ≡ withLogs S slot set []) → (w .code ≡ 0 → Written S set slot w)
+      → Left M S set slot w
+  past-reads w code unwritten written =
+      record {
+        codes = ⊎-elim inl (λ other. inr (inr (inr other))) code;
+        conflicts = λ core. absurd (no-core (w .code) code core);
+        readHeld = λ e. absurd (no-core (w .code) code (inl e));
+        readNewer = λ e. absurd (no-core (w .code) code (inr e));
+        unwritten = unwritten;
+        written = written;
+      }
 
   -- by what is picked: 34, or the write
   write-ended : (o : Option ℕ) → negativeAt (wordsOf S set) (groupCount set) ≡ none → picked (wordsOf S set) (groupCount set) ≡ o
-      → Left S set slot (writing M (withLogs S slot set []) slot set (wordsOf S set) o)
-  write-ended none sound p =
-      record { codes = inr (inr (inr refl)); conflicts = λ e. absurd (omega arith); unwritten = λ e. refl; written = λ e. absurd (omega arith) }
-  write-ended (some g) sound p =
-      record { codes = inl refl; conflicts = λ e. absurd (omega arith); unwritten = λ e. absurd (omega arith); written = λ e. (p, sound, write-accepted g p) }
+      → Left M S set slot (writing M (withLogs S slot set []) slot set (wordsOf S set) o)
+  write-ended none sound p = past-reads _ (inr (inr refl)) (λ e. refl) (λ e. absurd (omega arith))
+  write-ended (some g) sound p = past-reads _ (inl refl) (λ e. absurd (omega arith)) (λ e. (p, sound, write-accepted g p))
 
   -- by the signs: 33, or what is picked
   judge-ended : (o : Option ℕ) → negativeAt (wordsOf S set) (groupCount set) ≡ o
-      → Left S set slot (judging M (withLogs S slot set []) slot set (wordsOf S set) o)
+      → Left M S set slot (judging M (withLogs S slot set []) slot set (wordsOf S set) o)
   judge-ended none sound = write-ended (picked (wordsOf S set) (groupCount set)) sound refl
-  judge-ended (some place) e =
-      record { codes = inr (inr (inl refl)); conflicts = λ d. absurd (omega arith); unwritten = λ d. refl; written = λ d. absurd (omega arith) }
+  judge-ended (some place) e = past-reads _ (inr (inl refl)) (λ d. refl) (λ d. absurd (omega arith))
 
-  -- by the reads: 10, or what the signs say
-  reads-ended : (r : Reading) → SoFar S set slot (length set) r → Left S set slot (levelling M slot set r)
-  reads-ended (stopped place reply T) so =
-      let ten = so .0 in
-      let bare = refusal-bare reply (omega arith) in
-      record {
-        codes = inr (inl ten);
-        conflicts = λ e. (bare .0, bare .1, so .1, so .2, so .3, so .4);
+  -- by why a read was refused: 14 with the slot in the way, or 10
+  refused-ended : (place : ℕ) (reply : Reply) (T : State) → SoFar S set slot (length set) (stopped place reply T) → Conflict S slot (getD set place 0) reply
+      → Left M S set slot (levelling M slot set (stopped place reply T))
+  refused-ended place reply T so (inl (taken, said)) =
+      rw said
+      (record {
+        codes = inr (inl refl);
+        conflicts = λ e. (so .1, so .2, so .3, so .4);
+        readHeld = λ e. (refl, in-the-way S (pred slot) (getD set place 0) taken M (b .right) slot refl);
+        readNewer = λ e. absurd (omega arith);
         unwritten = λ e. absurd (omega arith);
         written = λ e. absurd (omega arith);
-      }
+      })
+  refused-ended place reply T so (inr (free, new, said)) =
+      rw said
+      (record {
+        codes = inr (inr (inl refl));
+        conflicts = λ e. (so .1, so .2, so .3, so .4);
+        readHeld = λ e. absurd (omega arith);
+        readNewer = λ e. (refl, refl, free, new);
+        unwritten = λ e. absurd (omega arith);
+        written = λ e. absurd (omega arith);
+      })
+
+  -- by the reads: a core code, or what the signs say
+  reads-ended : (r : Reading) → SoFar S set slot (length set) r → Left M S set slot (levelling M slot set r)
+  reads-ended (stopped place reply T) so = refused-ended place reply T so (so .0)
   reads-ended (going words T) so = rw (so .0, so .1, take-length set) (judge-ended (negativeAt (wordsOf S set) (groupCount set)) refl)
 
 module _ (M : Model) (S : State) (set : List ℕ) (slot : ℕ) (right : stateRight M S ≡ true) (adm : admitted M S set slot ≡ true) where
@@ -144,14 +175,14 @@ module _ (M : Model) (S : State) (set : List ℕ) (slot : ℕ) (right : stateRig
   all-read : SoFar S set slot (length set) (readFirst M S slot set (length set))
   all-read = so-far M S set slot (is-begun M S set slot right adm) (length set) (omega arith)
 
-  -- a read is refused with code 10 alone
-  pub refused-ten : (place : ℕ) (reply : Reply) (T : State) → readFirst M S slot set (length set) ≡ stopped place reply T → replyCode reply ≡ 10
-  refused-ten place reply T e = subst (SoFar S set slot (length set)) e all-read .0
+  -- a read is refused with code 14 or 10 alone
+  pub refused-read : (place : ℕ) (reply : Reply) (T : State) → readFirst M S slot set (length set) ≡ stopped place reply T → Conflict S slot (getD set place 0) reply
+  refused-read place reply T e = subst (SoFar S set slot (length set)) e all-read .0
 
   -- .. and what the operation comes to then
-  ended : Left S set slot (wear M S set slot)
+  ended : Left M S set slot (wear M S set slot)
   ended =
-      subst (Left S set slot) (sym (begins M S set slot adm))
+      subst (Left M S set slot) (sym (begins M S set slot adm))
       (reads-ended M S set slot (is-begun M S set slot right adm) (readFirst M S slot set (length set)) all-read)
 
 -- What the operation leaves.

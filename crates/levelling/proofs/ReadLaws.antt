@@ -28,7 +28,7 @@ use Rattle.rules.specs.Cells.{heldByOther, newer}
 use Rattle.rules.specs.Outcome.{accepted, refuseIf}
 use Rattle.rules.specs.Steps.{answer, readShared, read, write}
 use Rattle.rules.specs.Step.{stepOf, step}
-use Rattle.history.proofs.Right.{right-of}
+use Rattle.history.proofs.Right.{Right, right-of}
 use Rattle.history.proofs.Keeps.Lists.{any-none}
 use Rattle.wearset.specs.WearSet.{kindDue, setLengthRight, cellFits, placeRight, setRight}
 use Rattle.wearset.specs.OpenEmpty.{openAndEmpty}
@@ -48,6 +48,7 @@ is-empty (publishing ignoring taken start commit reads writes) e = absurd (false
 
 -- what is known of a well-formed state in which the operation is admitted
 pub record Begun (M : Model) (S : State) (set : List ℕ) (slot : ℕ) : Type 0 where
+  pub right : Right M S
   -- the slot is one of the model's, and open with empty logs
   pub slot-inside : (leb 1 slot and leb slot (M .slots)) ≡ true
   pub slot-there : pred slot < length (S .slots)
@@ -76,6 +77,7 @@ module _ (M : Model) (S : State) (set : List ℕ) (slot : ℕ) (right : stateRig
   is-begun =
       let inside = and-left _ _ (and-right _ _ adm) in
       record {
+        right = right-of M S right;
         slot-inside = inside;
         slot-there = omega (arith, right-of M S right .slot-count, leb-true 1 slot (and-left _ _ inside), leb-true slot (M .slots) (and-right _ _ inside));
         slot-empty = is-empty (slotAt S (pred slot)) (and-right _ _ (and-right _ _ adm));
@@ -148,7 +150,7 @@ module _ (M : Model) (S : State) (set : List ℕ) (slot : ℕ) (b : Begun M S se
       ∙ all-of (λ d. not (eqb d c)) (take n set) 0
       (λ k l. rw (getD-take n set k 0 (omega arith)) (ap not (ne-eqb (getD set k 0) c (b .cell-new n k h (omega arith)))))))
 
-  -- the set's next cell is read: it is in the way, or it joins the log
+  -- the set's next cell: it can't be read, or it joins the log
   pub read-next : (n : ℕ) → n < length set
       → step M (withLogs S slot (take n set) []) (readOf slot (getD set n 0))
       ≡ refuseIf (heldByOther i (cellAt S (getD set n 0))) (ReadHeld (cellAt S (getD set n 0) .holder))

@@ -13,6 +13,7 @@ use Rattle.rules.specs.Model.{Model}
 use Rattle.rules.specs.State.{State, opened, cellAt, slotAt, startOf, turn}
 use Rattle.rules.specs.StateRight.{stateRight}
 use Rattle.rules.specs.Cells.{heldByOther, newer}
+use Rattle.history.specs.InTheWay.{InTheWay}
 use Rattle.pick.specs.Groups.{erasesPlace, erases}
 use Rattle.pick.specs.Pick.{negativeAt, picked}
 use Rattle.wearset.specs.WearSet.{groupCount}
@@ -32,35 +33,53 @@ abbrev pub withLogs : State → ℕ → List ℕ → List WriteEntry → State
 withLogs S slot cells writes =
     turn S (pred slot) (S .clock) (S .cells) (opened (startOf (slotAt S (pred slot))) (map (entryOf S) cells) writes)
 
--- the cell can't be read: another slot holds it, or it has a stamp above the transaction's start
-abbrev pub inTheWay : State → ℕ → ℕ → Bool
-inTheWay S slot c = heldByOther (pred slot) (cellAt S c) or newer (startOf (slotAt S (pred slot))) (cellAt S c)
+-- another slot holds the cell; it has a stamp above the transaction's start; either way it can't be read
+abbrev pub held : State → ℕ → ℕ → Bool
+held S slot c = heldByOther (pred slot) (cellAt S c)
+
+abbrev pub tooNew : State → ℕ → ℕ → Bool
+tooNew S slot c = newer (startOf (slotAt S (pred slot))) (cellAt S c)
+
+abbrev pub unreadable : State → ℕ → ℕ → Bool
+unreadable S slot c = held S slot c or tooNew S slot c
+
+-- the entry of group g's write, and what is answered and left with it: the group that the pick rule gives, with no count negative
+abbrev pub raised : State → List ℕ → ℕ → WriteEntry
+raised S set g = record { cell = getD set (erasesPlace g) 0; word = suc (erases (wordsOf S set) g) }
+
+abbrev pub Written : State → List ℕ → ℕ → Levelled → Type 0
+Written S set slot w =
+    (picked (wordsOf S set) (groupCount set) ≡ some (w .word))
+    × (negativeAt (wordsOf S set) (groupCount set) ≡ none)
+    × (w .state ≡ withLogs S slot set (raised S set (w .word) ∷ []))
 
 -- What an operation w that has begun comes to.
-pub record Left (S : State) (set : List ℕ) (slot : ℕ) (w : Levelled) : Type 0 where
-  -- 10 is the only core code that can come.
-  pub codes : (w .code ≡ 0) ⊎ (w .code ≡ 10) ⊎ (w .code ≡ 33) ⊎ (w .code ≡ 34)
-  -- It comes with kind and word 0, at the first cell of the set that can't be read, and leaves the reads before it in the log ..
-  pub conflicts : w .code ≡ 10
+pub record Left (M : Model) (S : State) (set : List ℕ) (slot : ℕ) (w : Levelled) : Type 0 where
+  -- 14 and 10 are the only core codes that can come.
+  pub codes : (w .code ≡ 0) ⊎ (w .code ≡ 14) ⊎ (w .code ≡ 10) ⊎ (w .code ≡ 33) ⊎ (w .code ≡ 34)
+  -- Each of the two comes at the first cell of the set that can't be read, and leaves the reads before it in the log.
+  pub conflicts : (w .code ≡ 14) ⊎ (w .code ≡ 10)
+      → (w .place < length set)
+      × (unreadable S slot (getD set (w .place) 0) ≡ true)
+      × ((earlier : ℕ) → earlier < w .place → unreadable S slot (getD set earlier 0) ≡ false)
+      × (w .state ≡ withLogs S slot (take (w .place) set) [])
+  -- 14: kind 2, and the word is the slot in the way: another one, which holds that cell.
+  pub readHeld : w .code ≡ 14 → (w .kind ≡ 2) × InTheWay M S slot (getD set (w .place) 0) (w .word)
+  -- 10: kind and word 0. No other slot holds that cell; its stamp is above the start.
+  pub readNewer : w .code ≡ 10
       → (w .kind ≡ 0)
       × (w .word ≡ 0)
-      × (w .place < length set)
-      × (inTheWay S slot (getD set (w .place) 0) ≡ true)
-      × ((earlier : ℕ) → earlier < w .place → inTheWay S slot (getD set earlier 0) ≡ false)
-      × (w .state ≡ withLogs S slot (take (w .place) set) [])
-  -- .. and 33 and 34 leave all of them, and nothing written.
+      × (held S slot (getD set (w .place) 0) ≡ false)
+      × (tooNew S slot (getD set (w .place) 0) ≡ true)
+  -- 33 and 34 leave all reads in the log, and nothing written.
   pub unwritten : 33 ≤ w .code → w .state ≡ withLogs S slot set []
   -- A group is picked: its write is done. The log has the one entry.
-  pub written : w .code ≡ 0
-      → (picked (wordsOf S set) (groupCount set) ≡ some (w .word))
-      × (negativeAt (wordsOf S set) (groupCount set) ≡ none)
-      × (w .state
-      ≡ withLogs S slot set (record { cell = getD set (erasesPlace (w .word)) 0; word = suc (erases (wordsOf S set) (w .word)) } ∷ []))
+  pub written : w .code ≡ 0 → Written S set slot w
 
 pub record Leaves (M : Model) : Type 0 where
-  -- All cells are read: none is in the way, the words are the shared cells', every cell is in the read log, and nothing is written.
+  -- All cells are read: each can be, the words are the shared cells', every cell is in the read log, and nothing is written.
   pub allRead : (S : State) (set : List ℕ) (slot : ℕ) (words : List ℕ) (T : State) → stateRight M S ≡ true → admitted M S set slot ≡ true
       → readFirst M S slot set (length set) ≡ going words T
-      → (words ≡ wordsOf S set) × (T ≡ withLogs S slot set []) × ((place : ℕ) → place < length set → inTheWay S slot (getD set place 0) ≡ false)
+      → (words ≡ wordsOf S set) × (T ≡ withLogs S slot set []) × ((place : ℕ) → place < length set → unreadable S slot (getD set place 0) ≡ false)
   -- the operation, once it has begun
-  pub operation : (S : State) (set : List ℕ) (slot : ℕ) → stateRight M S ≡ true → admitted M S set slot ≡ true → Left S set slot (wear M S set slot)
+  pub operation : (S : State) (set : List ℕ) (slot : ℕ) → stateRight M S ≡ true → admitted M S set slot ≡ true → Left M S set slot (wear M S set slot)
