@@ -34,7 +34,7 @@ use Rattle.rules.proofs.StateSized.{logs-hold}
 use Rattle.rules.proofs.RoundTrip.{sized, state-right}
 use Rattle.history.specs.Slips.{slip}
 use Rattle.history.proofs.Right.{right-of}
-use Rattle.history.proofs.Cases.{Refusal, cond-case, twilight-case, publishing-case}
+use Rattle.history.proofs.Cases.{Bare, cond-case, twilight-case, publishing-case}
 use Rattle.history.proofs.StepCase.{slots-case}
 use Rattle.history.proofs.Move.{Move, committed, published}
 use Rattle.history.proofs.Keeps.Lists.{below-or-not, set-each}
@@ -117,9 +117,9 @@ module _ (l : List ℕ) (call : Call) (asked : Askable l call) where
   Written o =
       replyNumber (answered controller l o .reply) ≡ 0 → allHaveWords (stateOf controller (answered controller l o .bytes)) (writesOf (slotAt S i)) ≡ true
 
-  not-refused : (r : Reply) → Refusal r → Written (refused r)
+  not-refused : (r : Reply) → Bare r → Written (refused r)
   unfolding replyNumber
-  not-refused r k e = absurd (omega (arith, leb→le 2 (replyCode r) (k .0)))
+  not-refused r k e = absurd (omega (arith, leb→le 2 (replyCode r) (k .0 .0)))
 
   finish-writes : Written (insideSlots controller (call .slot) (finishWrites S i))
   unfolding finishWrites replyNumber slotRight commitBetween writesRight

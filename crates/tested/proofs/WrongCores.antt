@@ -35,7 +35,7 @@ use Rattle.rules.proofs.Open.{computed}
 use Rattle.rules.proofs.Controller.{controller-fits}
 use Rattle.rules.proofs.RoundTrip.{pack-right, pack-state, state-back, state-right, round-trip}
 use Rattle.rules.proofs.StateSized.{logs-hold}
-use Rattle.history.proofs.Cases.{Refusal, refuse-case, found-case, locking-case, twilight-case, publishing-case}
+use Rattle.history.proofs.Cases.{Bare, bare, refuse-case, found-case, locking-case, twilight-case, publishing-case}
 use Rattle.history.proofs.StepCase.{slots-case}
 use Rattle.history.proofs.Keeps.{keeps}
 use Rattle.history.proofs.Right.{right-of}
@@ -101,9 +101,7 @@ unfolding computed replyNumber
 close-refused core meets = exactly closes core meets .0
 
 refusing : (core : Core) → AlwaysRefuses core → Meets core → ⊥
-refusing core refuses meets =
-    let low : 1 ≤ 0 / 2 ^ 40 = rw (begin-done core meets) at (refuses _ _ (begins .asked) .0) in
-    omega arith
+refusing core refuses meets = refuses _ _ (begins .asked) .0 (ap (λ n. n / 2 ^ 40) (begin-done core meets))
 
 replying-the-same : (core : Core) → AlwaysRepliesTheSame core → Meets core → ⊥
 replying-the-same core alike meets =
@@ -165,8 +163,8 @@ no-code : (r : Reply) → replyNumber r / 2 ^ 40 ≡ 0 → replyCode r ≡ 0
 unfolding replyNumber
 no-code r e = omega arith
 
-not-refused : {P : Type 0} (r : Reply) → Refusal r → replyCode r ≡ 0 → P
-not-refused r k e = absurd (omega (arith, leb→le 2 (replyCode r) (k .0)))
+not-refused : {P : Type 0} (r : Reply) → Bare r → replyCode r ≡ 0 → P
+not-refused r k e = absurd (omega (arith, leb→le 2 (replyCode r) (k .0 .0)))
 
 -- a step that is accepted gives the right stamps: its row's tests are passed one by one
 module _ (S : State) (right : stateRight controller S ≡ true) (slot : ℕ) where
@@ -180,14 +178,14 @@ module _ (S : State) (right : stateRight controller S ≡ true) (slot : ℕ) whe
   abbrev Published : Outcome → Type 0
   Published o = replyCode (replyOf o) ≡ 0 → cellAt (after S o) (nextToPublish (slotAt S i)) .stamp ≡ commitOf (slotAt S i)
 
-  inside : (P : Outcome → Type 0) → ((r : Reply) → Refusal r → P (refused r)) → (o : Outcome) → (i < length (S .slots) → P o)
+  inside : (P : Outcome → Type 0) → ((r : Reply) → Bare r → P (refused r)) → (o : Outcome) → (i < length (S .slots) → P o)
       → P (insideSlots controller slot o)
   inside P refusal o f = slots-case controller S P refusal slot o (λ there. f (rw (right-of controller S right .slot-count) there))
 
   takes : i < length (S .slots) → (r : Reply) (x : Slot) → commitOf x ≡ suc (S .clock)
       → Took (belowLastStamp controller S (accepted r (turn S i (suc (S .clock)) (S .cells) x)))
   takes there r x same =
-      refuse-case Took not-refused (eqb (S .clock) (lastStamp controller)) LastStamp (tt, tt) _ λ below e.
+      refuse-case Took not-refused (eqb (S .clock) (lastStamp controller)) LastStamp bare _ λ below e.
       (refl, ap commitOf (getD-set-same (S .slots) i x idle there) ∙ same)
 
   entered : Took (insideSlots controller slot (enter controller S i))
@@ -195,7 +193,7 @@ module _ (S : State) (right : stateRight controller S ≡ true) (slot : ℕ) whe
   entered =
       inside Took not-refused _ λ there.
       locking-case Took not-refused (slotAt S i) _ λ taken start reads writes x.
-      refuse-case Took not-refused (ltb taken (length writes)) NotAllowed (tt, tt) _ λ whole.
+      refuse-case Took not-refused (ltb taken (length writes)) NotAllowed bare _ λ whole.
       takes there _ _ refl
 
   reloads : Took (insideSlots controller slot (reload controller S i))
@@ -203,7 +201,7 @@ module _ (S : State) (right : stateRight controller S ≡ true) (slot : ℕ) whe
   reloads =
       inside Took not-refused _ λ there.
       twilight-case Took not-refused (slotAt S i) _ λ ignoring start commit reads writes x.
-      found-case Took not-refused (obstacle S i reads) _ _ (λ e held. not-refused (ReloadHeld (e .cell) (cellAt S (e .cell) .holder)) (tt, tt)) λ clear.
+      found-case Took not-refused (obstacle S i reads) _ _ (λ e held code. absurd (omega arith)) λ clear.
       takes there _ _ refl
 
   published : Published (insideSlots controller slot (publish controller S i))

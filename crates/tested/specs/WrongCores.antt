@@ -3,10 +3,11 @@ use mathlib.Core.Bool.{Bool, true, not, cond}
 use mathlib.Core.List.{List, [], _∷_}
 use mathlib.Core.Logic.{_⊎_}
 use mathlib.Core.Path.{_≡_}
-use Prim.Native.Nat.{ℕ, suc, pred, _/_, _^_, _≤_}
+use Prim.Native.Nat.{ℕ, suc, pred, _/_, _^_}
 use lib.Dec.{eqb}
 use lib.ListN.{getD, set}
 use Rattle.call.specs.declared.Reply.the-variants.{Done, Aborted}
+use Rattle.call.specs.Answer.{Refuses}
 use Rattle.slot.specs.declared.WriteEntry.{WriteEntry}
 use Rattle.slot.specs.Layout.{noWrite}
 use Rattle.slot.specs.Logic.{_and_, all}
@@ -21,9 +22,9 @@ use Rattle.rules.specs.Step.{Call, step}
 use Rattle.rules.specs.Layout.{stateOf}
 use Rattle.tested.specs.Core.{Core, Askable, Meets, coreOf, withRow}
 
--- "a core that always refuses": with whichever code, from 1 to 12
+-- "a core that always refuses": with whichever code, but 0 and 13
 abbrev pub AlwaysRefuses : Core → Type 0
-AlwaysRefuses core = (l : List ℕ) (call : Call) → Askable l call → (1 ≤ core l call .answer / 2 ^ 40) × (core l call .answer / 2 ^ 40 ≤ 12)
+AlwaysRefuses core = (l : List ℕ) (call : Call) → Askable l call → Refuses (core l call .answer / 2 ^ 40)
 
 -- "one that always replies the same": with whichever number, and whatever it leaves
 abbrev pub AlwaysRepliesTheSame : Core → Type 0
