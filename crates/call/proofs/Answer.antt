@@ -1,18 +1,17 @@
 -- What a reply's code, kind and word can be, and that its number holds all three. A reply that carries neither a truth value nor a cell's value has kind and word 0,
 -- and code, kind and word have places of their own in the number: each is below the next one's weight.
-use mathlib.Core.Bool.{Bool, true, false}
+use mathlib.Core.Bool.{Bool}
 use mathlib.Core.List.{List, [], _∷_}
 use mathlib.Core.Logic.{inl, inr}
 use mathlib.Core.Path.{_≡_, refl}
 use Prim.Native.Nat.{ℕ, _/_, _%_, _^_, _≤_, _<_}
 use native.Mathlib.Omega.{arith}
 use denote.Enum.Declared.{tagOf}
-use lib.Dec.{lit<, lit≤}
+use lib.Dec.{lit≤}
 use types.Run.{OneOf, miss}
-use Rattle.value.proofs.RoundTrip.{legal-bound, holdable-legal}
 use Rattle.value.specs.declared.CellValue.{CellValue}
 use Rattle.value.specs.declared.CellValue.the-variants as value
-use Rattle.value.specs.Value.{kindOf, wordOf, Holdable}
+use Rattle.value.specs.Value.{kindOf}
 use Rattle.call.proofs.Reply.{the-type}
 use Rattle.call.specs.declared.Reply.{Reply}
 use Rattle.call.specs.declared.Reply.the-variants.{Done, Verdict, Value, NotWellFormed, NoSuchStep, NoSuchSlot, NotAllowed, NoSuchCell, IllegalValue, OtherKind, NotInLog, LogFull, ReadHeld, ReadNewer, LockHeld, ReloadHeld, LastStamp, Aborted}

@@ -16,7 +16,7 @@ use Rattle.call.specs.declared.Reply.the-variants.{NotWellFormed}
 use Rattle.call.specs.Answer.{replyCode, replyKind, replyWord, replyNumber, Refuses, SaysWho}
 use Rattle.call.proofs.Answer.{refusal-bare, number-splits}
 use Rattle.rules.specs.Model.{controller}
-use Rattle.rules.specs.Outcome.{Outcome, replyOf}
+use Rattle.rules.specs.Outcome.{replyOf}
 use Rattle.rules.specs.Step.{Call, step}
 use Rattle.rules.specs.Layout.{pack, stateOf}
 use Rattle.rules.specs.AreaRight.{wellFormed}

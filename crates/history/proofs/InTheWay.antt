@@ -1,5 +1,5 @@
 -- Who is in the way: a hold by another slot is a hold of the one that the cell names, since holders are right, and the three refusals that say so have shown it.
-use mathlib.Core.Bool.{Bool, true, false, not, cond, false≢true}
+use mathlib.Core.Bool.{Bool, true, false, not}
 use mathlib.Core.List.{List}
 use mathlib.Core.Logic.{inl, inr}
 use mathlib.Core.Option.{some}
@@ -13,7 +13,6 @@ use Rattle.call.specs.declared.Step.{Step}
 use Rattle.call.specs.declared.Step.the-variants.{Read, Lock, Reload}
 use Rattle.call.specs.declared.Decoded.the-variants.{Made}
 use Rattle.call.specs.declared.Reply.{Reply}
-use Rattle.call.specs.declared.Reply.the-variants.{ReadHeld, LockHeld, ReloadHeld}
 use Rattle.call.specs.Answer.{heldWord, replyCode}
 use Rattle.call.specs.Decode.{decoded}
 use Rattle.call.proofs.Number.{number-back}
@@ -23,13 +22,12 @@ use Rattle.slot.specs.Logic.{_and_}
 use Rattle.slot.proofs.Logic.{and-left, and-right}
 use Rattle.slot.proofs.Search.{found-passes}
 use Rattle.rules.specs.Model.{Model, FitsBytes}
-use Rattle.rules.specs.State.{State, cellCount, cellAt, slotAt, readsOf, noCell}
+use Rattle.rules.specs.State.{State, cellCount, cellAt, slotAt, noCell}
 use Rattle.rules.specs.Cells.{heldByOther, obstacle}
-use Rattle.rules.specs.StateRight.{holds, stateRight}
+use Rattle.rules.specs.StateRight.{holds}
 use Rattle.rules.specs.Outcome.{Outcome, refused, accepted, replyOf}
 use Rattle.rules.specs.Step.{Call, step}
 use Rattle.history.specs.InTheWay.{InTheWay, SaysHeld, TellsWho}
-use Rattle.history.proofs.Cases.{Bare}
 use Rattle.history.proofs.Right.{Right, right-of}
 use Rattle.history.proofs.Move.{Declined, barely, read-held, lock-held, reload-held, Lawful}
 use Rattle.history.proofs.StepCase.{lawful-case}
