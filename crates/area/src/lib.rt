@@ -249,19 +249,19 @@ pub fn reloaded_reads(s: &[u8], i: u8) -> [ReadEntry; SlotRecord::READS]
     log
 }
 
-// The first cell of the read log that a slot other than `i` holds.
+// The first cell of the read log that a slot other than `i` holds: the loop yields what stands in reload's way.
 pub fn first_obstacle(s: &[u8], i: u8) -> Obstacle
     requires { ⌜ Good (now s) × (i < 8) ⌝ }
     ensures { λ r. ⌜ r ≡ obstacleIn (now (s .entry)) i ⌝ }
 {
     let v = fields_at(s, i);
     let n = v.readcount as usize;
-    let mut k = 0;
+    let mut left = n;
     loop {
-        if n <= k {
+        if left == 0 {
             break Obstacle::Clear;
         }
-        let e = read_at(s, i, k);
+        let e = read_at(s, i, n - left);
         let x = cell_at(s, e.cell);
         if held_by_other(i, x) {
             break Obstacle::Held {
@@ -269,6 +269,6 @@ pub fn first_obstacle(s: &[u8], i: u8) -> Obstacle
                 holder: x.holder,
             };
         }
-        k += 1;
+        left -= 1;
     }
 }
