@@ -162,5 +162,5 @@ fn cells_of(machine: &Machine, kind: Kind) -> Vec<u8> {
 
 fn is_readable(machine: &Machine, slot: u8, cell: u8) -> bool {
     let start = machine.slot(slot).map_or(machine.clock(), |own| own.start);
-    machine.cells()[usize::from(cell)].stamp <= start && !machine.held_by_another(cell, slot)
+    machine.cells()[usize::from(cell)].stamp <= start && machine.other_holder(cell, slot).is_none()
 }
