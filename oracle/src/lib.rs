@@ -38,6 +38,7 @@ pub mod wear;
 pub mod wellformed;
 
 mod bytes;
+mod obstacles;
 mod record;
 mod steps;
 mod wear_set;
