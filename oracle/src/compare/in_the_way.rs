@@ -4,10 +4,10 @@ use super::case::{Case, CELL};
 use crate::call::Step::{self, *};
 use crate::machine::{Transaction, CELLS_AT_MOST, SLOTS};
 
-/// E11 as it stands, then each slot as the holder of each cell, and a reload
-/// with one holder after the other in its way.
+/// E11 as it stands, what comes first, then each slot as the holder of each
+/// cell, and a reload with one holder after the other in its way.
 pub(super) fn sheets_with_a_holder() -> Vec<Case> {
-    let mut cases = vec![e11()];
+    let mut cases = vec![e11(), held_newer_or_full(), second_lock()];
     cases.extend((1..=SLOTS as u8).map(held_by));
     cases.push(reload_past_holders());
     cases
@@ -48,6 +48,32 @@ fn e11() -> Case {
     steps.meet(2, 0);
     let cells = [&CELL[..], &[1, 0, 0, 0, 0]].concat();
     Case::of_parts("E11", 1, &cells, &steps.0)
+}
+
+/// Slot 1 reads cell 16 when it is newer, when it is held as well, when it is
+/// newer again, and the same with a full read log.
+fn held_newer_or_full() -> Case {
+    let mut steps = Steps(Vec::new());
+    steps.add(Begin, 1, 0);
+    steps.hold(2, &[16]);
+    [Enter, Finish, Publish].into_iter().for_each(|step| steps.add(step, 2, 0));
+    for reads in [0..0, 0..16] {
+        reads.for_each(|cell| steps.add(Read, 1, cell));
+        steps.add(Read, 1, 16);
+        steps.hold(3, &[16]);
+        steps.add(Read, 1, 16);
+        steps.add(GiveUp, 3, 0);
+        steps.add(Read, 1, 16);
+    }
+    steps.on_cells("held, newer or full".to_string(), 17)
+}
+
+/// Slot 1 holds the second cell that slot 2 needs.
+fn second_lock() -> Case {
+    let mut steps = Steps(Vec::new());
+    steps.hold(1, &[4]);
+    steps.hold(2, &[3, 4]);
+    steps.on_cells("the second lock".to_string(), 5)
 }
 
 /// The slot holds as many cells at a time as its log has room for.

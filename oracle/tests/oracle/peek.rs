@@ -212,9 +212,13 @@ pub fn code_of(peek: &Peek, call: Call) -> u8 {
 
 /// Kind and word of a refusal with this code: 0 for all but 11 and 14.
 pub fn told(peek: &Peek, code: u8, call: Call) -> (u8, u32) {
-    match (code, held_in_the_way(peek, call)) {
-        (14, _) => (2, peek.holder(usize::from(call.cell)).into()),
-        (11, Some(cell)) => (2, cell as u32 * 256 + u32::from(peek.holder(cell))),
+    let holder = |cell: usize| u32::from(peek.holder(cell));
+    match code {
+        14 => (2, holder(call.cell.into())),
+        11 => {
+            let cell = held_in_the_way(peek, call).expect("a held cell");
+            (2, cell as u32 * 256 + holder(cell))
+        }
         _ => (0, 0),
     }
 }
