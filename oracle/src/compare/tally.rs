@@ -97,7 +97,8 @@ impl Tally {
             named.map(|(name, count, least)| (name.to_string(), count, least)).to_vec();
         // Codes 1 and 12 are out of a sheet's reach, and 13 is an abort.
         for code in (2..=11).chain([14]) {
-            counts.push((format!("code {code}"), self.codes[code], 500));
+            let least = if code == 14 { 2_500 } else { 500 };
+            counts.push((format!("code {code}"), self.codes[code], least));
         }
         let obstacles = obstacles::NAMES.into_iter().zip(self.obstacles.counts());
         for ((name, count), least) in obstacles.zip(OBSTACLES) {

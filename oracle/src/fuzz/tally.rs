@@ -87,7 +87,8 @@ impl Tally {
     fn counts(&self) -> Vec<Count> {
         let mut counts: Vec<Count> = Vec::new();
         for (code, count) in self.codes.iter().enumerate() {
-            counts.push((format!("code {code}"), *count, 100));
+            let least = if code == 14 { 600 } else { 100 };
+            counts.push((format!("code {code}"), *count, least));
         }
         for (step, count) in self.done.iter().enumerate().skip(1) {
             counts.push((format!("step {step} done"), *count, 300));
