@@ -20,8 +20,8 @@ import tempfile
 STEPS = ['no such step', 'begin', 'read', 'write', 'close', 'lock', 'enter', 'reread', 'update', 'ask', 'reload',
          'ignore', 'finish', 'publish', 'give up']
 DONE = (0, 13)
-REFUSED = range(1, 13)
-WEAR_REFUSED = (10, 33, 34)
+REFUSED = (*range(1, 13), 14)
+WEAR_REFUSED = (10, 14, 33, 34)
 WEAR_GROUPS = (8, 1)
 # of a call with eight groups, one of which is picked
 WEAR_ALLOWED = 31000

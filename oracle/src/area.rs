@@ -33,11 +33,11 @@ pub fn lay_out_on_bytes(area: &mut [u8], descriptions: &[u8]) -> u64 {
     let n = descriptions.len() / DESCRIPTION_LENGTH;
     let whole = descriptions.len() == n * DESCRIPTION_LENGTH;
     if !whole || !(1..=CELLS_AT_MOST).contains(&n) || area.len() != area_length(n) {
-        return Refusal::NotWellFormed as u64;
+        return Refusal::NotWellFormed.code().into();
     }
     let values = read_descriptions(descriptions);
     let Some(machine) = values.and_then(|values| Machine::fresh(&values)) else {
-        return Refusal::IllegalValue as u64;
+        return Refusal::IllegalValue.code().into();
     };
     area.copy_from_slice(&machine.pack());
     0

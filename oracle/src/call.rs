@@ -97,11 +97,11 @@ pub struct Call {
     pub word: u32,
 }
 
-/// Why a call is refused. The numbers are the codes.
+/// Why a call is refused, with what the reply names.
 #[derive(Clone, Copy, Debug, PartialEq, Eq)]
 pub enum Refusal {
     /// The area is not well formed.
-    NotWellFormed = 1,
+    NotWellFormed,
     /// Step number outside 1 to 14.
     NoSuchStep,
     /// Slot outside 1 to 8.
@@ -118,12 +118,56 @@ pub enum Refusal {
     NotInLog,
     /// A new entry is needed and the log has 16.
     LogFull,
-    /// The shared cell is held by another slot or has a stamp above start.
-    NotReadable,
-    /// A cell that is needed is held by another slot.
-    HeldByAnother,
+    /// Read: another slot holds the shared cell.
+    ReadHeld {
+        /// That slot.
+        holder: u8,
+    },
+    /// Read: the shared cell has a stamp above start.
+    ReadNewer,
+    /// Lock or reload: another slot holds the cell to be locked, or a cell
+    /// that was read.
+    HeldByAnother {
+        /// The cell; for reload the first such cell in read-log order.
+        cell: u8,
+        /// That slot.
+        holder: u8,
+    },
     /// The clock is 2^64 - 1.
     ClockAtEnd,
+}
+
+impl Refusal {
+    /// The code, 1 to 12 or 14.
+    pub fn code(self) -> u8 {
+        match self {
+            Refusal::NotWellFormed => 1,
+            Refusal::NoSuchStep => 2,
+            Refusal::NoSuchSlot => 3,
+            Refusal::NotAllowed => 4,
+            Refusal::NoSuchCell => 5,
+            Refusal::IllegalValue => 6,
+            Refusal::OtherKind => 7,
+            Refusal::NotInLog => 8,
+            Refusal::LogFull => 9,
+            Refusal::ReadNewer => 10,
+            Refusal::HeldByAnother { .. } => 11,
+            Refusal::ClockAtEnd => 12,
+            Refusal::ReadHeld { .. } => 14,
+        }
+    }
+
+    /// Who is in the way, as a whole number. Only 11 and 14 tell it; kind and
+    /// word of all others are 0.
+    pub fn in_the_way(self) -> Option<Value> {
+        match self {
+            Refusal::ReadHeld { holder } => Some(Value::Whole(holder.into())),
+            Refusal::HeldByAnother { cell, holder } => {
+                Some(Value::Whole(i32::from(cell) * 256 + i32::from(holder)))
+            }
+            _ => None,
+        }
+    }
 }
 
 /// The answer to a call.
@@ -133,36 +177,39 @@ pub enum Reply {
     Done,
     /// Code 0 with a kind and a word.
     Answer(Value),
-    /// A code from 1 to 12; nothing was changed.
+    /// A code other than 0 and 13; nothing was changed.
     Refused(Refusal),
     /// Code 13: the transaction ended without commit.
     Ended,
 }
 
 impl Reply {
-    /// The code, 0 to 13.
+    /// The code, 0 to 14.
     pub fn code(self) -> u8 {
         match self {
             Reply::Done | Reply::Answer(_) => 0,
-            Reply::Refused(refusal) => refusal as u8,
+            Reply::Refused(refusal) => refusal.code(),
             Reply::Ended => 13,
+        }
+    }
+
+    /// What the reply tells beside its code.
+    pub fn value(self) -> Option<Value> {
+        match self {
+            Reply::Done | Reply::Ended => None,
+            Reply::Answer(value) => Some(value),
+            Reply::Refused(refusal) => refusal.in_the_way(),
         }
     }
 
     /// The kind, 0 if there is none.
     pub fn kind(self) -> u8 {
-        match self {
-            Reply::Answer(value) => value.kind().number(),
-            _ => 0,
-        }
+        self.value().map_or(0, |value| value.kind().number())
     }
 
     /// The word, 0 if there is none.
     pub fn word(self) -> u32 {
-        match self {
-            Reply::Answer(value) => value.word(),
-            _ => 0,
-        }
+        self.value().map_or(0, Value::word)
     }
 
     /// The reply as one number: code × 2^40 + kind × 2^32 + word.

@@ -176,10 +176,9 @@ impl Machine {
             .map_or(0, |(number, _)| number)
     }
 
-    /// Whether a slot other than this one holds the cell.
-    pub fn held_by_another(&self, cell: u8, slot: u8) -> bool {
-        let holder = self.holder(cell);
-        holder != 0 && holder != slot
+    /// The slot other than this one that holds the cell, if there is one.
+    pub fn other_holder(&self, cell: u8, slot: u8) -> Option<u8> {
+        Some(self.holder(cell)).filter(|holder| ![0, slot].contains(holder))
     }
 
     /// Whether all slots are idle.

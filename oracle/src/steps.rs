@@ -3,6 +3,7 @@
 //! Every function here first asks for each refusal of its step, from the
 //! lowest code to the highest, and only then changes anything: so the lowest
 //! code that applies is given, and a refused call leaves the machine as it was.
+//! Code 14 is asked for at the place of 10 and before it.
 
 use crate::call::{Call, Refusal, Reply, Step};
 use crate::machine::{Cell, Commit, Machine, Phase, Read, Transaction, Write};
@@ -73,8 +74,8 @@ impl Machine {
             return goes_on(own, Reply::Answer(value));
         }
         room_in_log(own.reads.len())?;
-        if self.conflicts(call.cell, call.slot, own.start) {
-            return Err(Refusal::NotReadable);
+        if let Some(refusal) = self.conflict(call.cell, call.slot, own.start) {
+            return Err(refusal);
         }
         own.reads.push(Read { cell: call.cell, value: shared.value, marked: false });
         goes_on(own, Reply::Answer(shared.value))
@@ -94,9 +95,7 @@ impl Machine {
     }
 
     fn lock(&self, mut own: Transaction, slot: u8, taken: usize) -> Outcome {
-        if self.held_by_another(own.writes[taken].cell, slot) {
-            return Err(Refusal::HeldByAnother);
-        }
+        self.first_held([own.writes[taken].cell], slot)?;
         own.phase = Phase::Locking { taken: taken + 1 };
         goes_on(own, Reply::Done)
     }
@@ -105,7 +104,7 @@ impl Machine {
         let stamp = self.next_stamp()?;
         let start = own.start;
         for read in &mut own.reads {
-            read.marked = self.conflicts(read.cell, slot, start);
+            read.marked = self.conflict(read.cell, slot, start).is_some();
         }
         self.enter_twilight(&mut own, stamp);
         let nothing_marked = Value::Truth(!own.some_mark());
@@ -133,10 +132,7 @@ impl Machine {
     /// Takes a new stamp even if nothing was marked: with the old one the
     /// transaction would claim a place before a write that it has read.
     fn reload(&mut self, mut own: Transaction, slot: u8) -> Outcome {
-        let mut read_cells = own.reads.iter().map(|read| read.cell);
-        if read_cells.any(|cell| self.held_by_another(cell, slot)) {
-            return Err(Refusal::HeldByAnother);
-        }
+        self.first_held(own.reads.iter().map(|read| read.cell), slot)?;
         let stamp = self.next_stamp()?;
         for read in &mut own.reads {
             read.value = self.cells[usize::from(read.cell)].value;
@@ -180,12 +176,23 @@ impl Machine {
         own.read_of(cell).ok_or(Refusal::NotInLog)
     }
 
-    /// Whether a read of the cell by a transaction with this start is out of
-    /// date or may become so under a stamp that is already given. The holder
-    /// counts whatever the cell's stamp is: it may have a commit stamp that is
-    /// not above start and not have published yet.
-    fn conflicts(&self, cell: u8, slot: u8, start: u64) -> bool {
-        self.held_by_another(cell, slot) || self.cells[usize::from(cell)].stamp > start
+    /// Why a read of the cell by a transaction with this start is out of date
+    /// or may become so under a stamp that is already given. The holder counts
+    /// whatever the cell's stamp is: it may have a commit stamp that is not
+    /// above start and not have published yet.
+    fn conflict(&self, cell: u8, slot: u8, start: u64) -> Option<Refusal> {
+        let held = self.other_holder(cell, slot).map(|holder| Refusal::ReadHeld { holder });
+        let newer = self.cells[usize::from(cell)].stamp > start;
+        held.or(newer.then_some(Refusal::ReadNewer))
+    }
+
+    /// An error names the first of these cells that another slot holds.
+    fn first_held(&self, cells: impl IntoIterator<Item = u8>, slot: u8) -> Result<(), Refusal> {
+        let held = cells.into_iter().find_map(|cell| {
+            let holder = self.other_holder(cell, slot)?;
+            Some(Refusal::HeldByAnother { cell, holder })
+        });
+        held.map_or(Ok(()), Err)
     }
 
     fn next_stamp(&self) -> Result<u64, Refusal> {

@@ -27,7 +27,8 @@ pub enum WearRefusal {
     NoSuchSlot,
     /// Code 4: the slot's transaction is not open with empty logs.
     NotOpenAndEmpty,
-    /// The code of the core, which did not do the step on this cell.
+    /// The code of the core, which did not do the step on this cell, with the
+    /// holder if another slot holds it.
     Core {
         /// What the core replied.
         reply: Reply,

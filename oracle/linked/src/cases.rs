@@ -43,10 +43,10 @@ const STALE: u8 = 15;
 const HELD: u8 = 16;
 
 /// For each step a case or two in which it is done, and one in which it is
-/// refused as late as it can be.
+/// refused as late as it can be; for each cause why a cell can't be read, one.
 pub fn all() -> Option<Vec<Case>> {
     let idle = Stage::set(0..0)?;
-    let mut cases = before_locking(&idle);
+    let mut cases = before_locking(&idle, &Stage::set(0..STALE)?);
     cases.extend(while_locking(&idle, &Stage::set(0..STALE + 1)?));
     let entered = Stage::set(0..STALE + 1)?.entered();
     cases.extend(in_twilight(&entered, &Stage::set(1..HELD + 1)?.entered()));
@@ -86,7 +86,8 @@ fn wear_of(groups: usize) -> Option<[WearCase; 4]> {
     };
     Some([
         case(&good, &set, (2 << 32) + last as u64)?,
-        case(&good, &set_held, (place << 48) + (10 << 40))?,
+        // Slot 1 is in the way.
+        case(&good, &set_held, (place << 48) + (14 << 40) + (2 << 32) + 1)?,
         case(&negative, &set, (place << 48) + (33 << 40))?,
         case(&worn_out, &set, 34 << 40)?,
     ])
@@ -110,7 +111,7 @@ fn usual_values() -> Vec<Value> {
     one_of_each.into_iter().cycle().take(CELLS_AT_MOST).collect()
 }
 
-fn before_locking(idle: &Stage) -> Vec<Case> {
+fn before_locking(idle: &Stage, stale: &Stage) -> Vec<Case> {
     let begun = idle.then(Begin);
     let room_to_read = begun.each(Write, 48..64).each(Read, 0..15);
     let room_to_write = begun.each(Read, 0..16).each(Write, 1..16);
@@ -119,7 +120,8 @@ fn before_locking(idle: &Stage) -> Vec<Case> {
         idle.case(Begin, 0, 0),
         full.case(Begin, 0, 4),
         room_to_read.case(Read, 15, 0),
-        room_to_read.case(Read, HELD, 10),
+        room_to_read.case(Read, HELD, 14),
+        stale.each(Write, 48..64).case(Read, STALE, 10),
         full.case(Read, HELD, 9),
         room_to_write.case(Write, 0, 0),
         full.case(Write, HELD, 9),

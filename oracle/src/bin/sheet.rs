@@ -16,7 +16,9 @@ sheet: step sheets for the transaction core
                           the run of a sheet, in either form: a lane for each
                           slot, a column for each step; with --svg a picture
                           in the file OUT, whose name ends in .svg
-  sheet run [FILE]        makes the steps of a sheet, in either form
+  sheet run [FILE]        makes the steps of a sheet, in either form, and prints
+                          for each its place, code, kind and word; the word of
+                          codes 11 and 14 says who is in the way
 
 Without FILE the sheet is read from standard input.
 

@@ -1,6 +1,7 @@
 //! Sheets at the edges of what is good, and inputs just behind them.
 
 use super::case::{Case, BEGIN, CELL};
+use super::in_the_way::sheets_with_a_holder;
 use crate::binary::STEPS_AT_MOST;
 use crate::machine::CELLS_AT_MOST;
 use crate::random::Random;
@@ -8,8 +9,8 @@ use crate::text;
 
 const S_TEXT: &str = include_str!("../../../examples/sheets/s.txt");
 
-/// Good sheets: none and most of everything, and every byte in every place of
-/// a step.
+/// Good sheets: none and most of everything, every slot in the way, and every
+/// byte in every place of a step.
 pub fn edge_sheets() -> Vec<Case> {
     let numbers_of_cells = 1..=CELLS_AT_MOST;
     let mut cases: Vec<Case> = numbers_of_cells
@@ -19,6 +20,7 @@ pub fn edge_sheets() -> Vec<Case> {
     cases.push(Case::of_parts("4096 steps on one cell", 1, &CELL, &BEGIN.repeat(STEPS_AT_MOST)));
     cases.push(longest());
     cases.push(reloads());
+    cases.extend(sheets_with_a_holder());
     for place in 0..4 {
         let mut steps = Vec::new();
         for byte in 0..=255 {

@@ -7,6 +7,7 @@ mod case;
 mod draw;
 mod edges;
 mod failure;
+mod in_the_way;
 mod process;
 mod tally;
 

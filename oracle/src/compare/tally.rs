@@ -5,10 +5,14 @@ use std::fmt;
 use crate::binary::{Sheet, STEPS_AT_MOST};
 use crate::call::{Call, Reply, Step};
 use crate::machine::{Machine, CELLS_AT_MOST};
+use crate::obstacles::{self, Obstacles};
 
 /// The least counts are those of so many random sheets; others are in
 /// proportion.
 const LEAST_COUNTS_ARE_FOR: u64 = 2_000;
+
+/// The least counts of steps with another slot in the way, one for each name.
+const OBSTACLES: [u64; obstacles::NAMES.len()] = [4000, 200, 12, 12, 30, 90, 150, 200, 150];
 
 /// Counts of what was compared and found alike.
 #[derive(Clone, Debug, Default)]
@@ -17,10 +21,11 @@ pub struct Tally {
     bad: u64,
     with_a_commit: u64,
     full: u64,
-    codes: [u64; 14],
+    codes: [u64; 15],
     done: [u64; 15],
     marks: u64,
     ignores: u64,
+    obstacles: Obstacles,
 }
 
 /// What is counted, how often it was there, and how often it has to be.
@@ -53,6 +58,7 @@ impl Tally {
         let was_ignoring = is_ignoring(machine, call.slot);
         let reply = machine.step(call);
         self.codes[usize::from(reply.code())] += 1;
+        self.obstacles.note(machine, call, reply.number());
         let Some(step) = Step::numbered(call.step).filter(|_| reply.code() == 0) else {
             return;
         };
@@ -90,8 +96,13 @@ impl Tally {
         let mut counts: Vec<Count> =
             named.map(|(name, count, least)| (name.to_string(), count, least)).to_vec();
         // Codes 1 and 12 are out of a sheet's reach, and 13 is an abort.
-        for code in 2..=11 {
-            counts.push((format!("code {code}"), self.codes[code], 500));
+        for code in (2..=11).chain([14]) {
+            let least = if code == 14 { 2_500 } else { 500 };
+            counts.push((format!("code {code}"), self.codes[code], least));
+        }
+        let obstacles = obstacles::NAMES.into_iter().zip(self.obstacles.counts());
+        for ((name, count), least) in obstacles.zip(OBSTACLES) {
+            counts.push((name.to_string(), count, least));
         }
         for step in Step::ALL {
             let count = self.done[usize::from(step.number())];

@@ -233,7 +233,7 @@ impl Round<'_> {
         let asked =
             format_args!("step {step}, slot {slot}, cell {cell}, kind {kind}, word {word:08x}");
         differences(asked, &before, Given::wanted(number, area), Given::lent(given, &lent))?;
-        self.tally.note_step(call, number, *area != before);
+        self.tally.note_step(&before, call, number, *area != before);
         Ok(())
     }
 

@@ -67,8 +67,8 @@ impl Random {
         }
         let (clock, any) = (machine.clock, self.up_to(machine.clock));
         let few_newer = clock - clock / 16;
-        let start =
-            self.pick(&[clock, clock, clock, clock, few_newer, few_newer, any]).unwrap_or(clock);
+        let starts = [clock, clock, few_newer, few_newer, few_newer, few_newer, any];
+        let start = self.pick(&starts).unwrap_or(clock);
         let place = self.place(SLOTS);
         machine.slots[place] = Some(Transaction::begun(start));
         (machine, place as u8 + 1)
@@ -97,7 +97,7 @@ impl Random {
         let erases = self.cells_to_read(machine, slot, Kind::Whole);
         let pairs = truths.into_iter().zip(erases).take(groups);
         let mut set: Vec<u8> = pairs.flat_map(|(truth, erases)| [truth, erases]).collect();
-        if self.one_in(5) {
+        if self.one_in(3) {
             self.put_in_the_way(&mut set, machine, slot);
         }
         set
@@ -116,11 +116,14 @@ impl Random {
         cells
     }
 
-    /// Puts a cell that can't be read, if there is one, at any place of a set.
+    /// Puts a cell that can't be read, if there is one, at any place of a set:
+    /// one that is held, or more often, as they are fewer, one that is newer.
     fn put_in_the_way(&mut self, set: &mut [u8], machine: &Machine, slot: u8) {
         let place = self.place(set.len());
+        let held = self.one_in(3);
         let mut cells = cells_of(machine, [Kind::Truth, Kind::Whole][place % 2]);
         cells.retain(|cell| !set.contains(cell) && !is_readable(machine, slot, *cell));
+        cells.retain(|cell| machine.other_holder(*cell, slot).is_some() == held);
         put(set, place, self.pick(&cells));
     }
 
@@ -162,5 +165,5 @@ fn cells_of(machine: &Machine, kind: Kind) -> Vec<u8> {
 
 fn is_readable(machine: &Machine, slot: u8, cell: u8) -> bool {
     let start = machine.slot(slot).map_or(machine.clock(), |own| own.start);
-    machine.cells()[usize::from(cell)].stamp <= start && !machine.held_by_another(cell, slot)
+    machine.cells()[usize::from(cell)].stamp <= start && machine.other_holder(cell, slot).is_none()
 }

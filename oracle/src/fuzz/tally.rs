@@ -4,18 +4,24 @@ use std::fmt;
 
 use super::wear_tally::WearTally;
 use crate::call::Call;
+use crate::machine::Machine;
+use crate::obstacles::{self, Obstacles};
 use crate::wellformed::{sentences, SENTENCE_COUNT};
 
 /// The least counts are those of so many calls; others are in proportion.
 const LEAST_COUNTS_ARE_FOR: u64 = 250_000;
 
+/// The least counts of steps with another slot in the way, one for each name.
+const OBSTACLES: [u64; obstacles::NAMES.len()] = [1500, 200, 70, 70, 100, 150, 5, 60, 25];
+
 /// Counts of the calls that were answered alike.
 #[derive(Clone, Debug, Default)]
 pub struct Tally {
-    codes: [u64; 14],
+    codes: [u64; 15],
     done: [u64; 15],
     marks: u64,
     ignores: u64,
+    obstacles: Obstacles,
     lay_outs: [u64; 7],
     pub(super) wear: WearTally,
     /// Areas with some bytes changed that are well formed all the same.
@@ -33,9 +39,13 @@ impl Tally {
         self.codes.iter().chain(&self.lay_outs).sum::<u64>() + self.wear.calls()
     }
 
-    pub(super) fn note_step(&mut self, call: Call, number: u64, changed: bool) {
-        let code = (number >> 40) as usize;
-        self.codes[code] += 1;
+    pub(super) fn note_step(&mut self, before: &[u8], call: Call, number: u64, changed: bool) {
+        let code = (number >> 40) as u8;
+        self.codes[usize::from(code)] += 1;
+        if Obstacles::is_about(code) {
+            let machine = Machine::unpack(before);
+            machine.iter().for_each(|machine| self.obstacles.note(machine, call, number));
+        }
         if code != 0 {
             return;
         }
@@ -77,7 +87,8 @@ impl Tally {
     fn counts(&self) -> Vec<Count> {
         let mut counts: Vec<Count> = Vec::new();
         for (code, count) in self.codes.iter().enumerate() {
-            counts.push((format!("code {code}"), *count, 100));
+            let least = if code == 14 { 600 } else { 100 };
+            counts.push((format!("code {code}"), *count, least));
         }
         for (step, count) in self.done.iter().enumerate().skip(1) {
             counts.push((format!("step {step} done"), *count, 300));
@@ -94,6 +105,10 @@ impl Tally {
             ("damaged and still well formed", self.still_well_formed, 2000),
         ];
         counts.extend(named.map(|(name, count, least)| (name.to_string(), count, least)));
+        let obstacles = obstacles::NAMES.into_iter().zip(self.obstacles.counts());
+        for ((name, count), least) in obstacles.zip(OBSTACLES) {
+            counts.push((name.to_string(), count, least));
+        }
         for (sentence, count) in sentences().zip(self.alone) {
             counts.push((format!("broken alone: {sentence}"), count, 5));
         }

@@ -10,8 +10,17 @@ use crate::wear::GROUPS_AT_MOST;
 use crate::wear_set::{reasons, REASON_COUNT};
 
 /// The codes that there are, in the order in which they are tested.
-const CODES: [(u8, u64); 8] =
-    [(0, 2000), (1, 4000), (32, 2500), (3, 800), (4, 1500), (10, 4000), (33, 300), (34, 1000)];
+const CODES: [(u8, u64); 9] = [
+    (0, 2000),
+    (1, 4000),
+    (32, 2500),
+    (3, 800),
+    (4, 1500),
+    (14, 4000),
+    (10, 500),
+    (33, 300),
+    (34, 1000),
+];
 
 /// The least counts of bad sets, one for each reason.
 const BAD_SETS: [u64; REASON_COUNT] = [340, 170, 230, 250, 380, 330];
@@ -23,8 +32,9 @@ pub struct WearTally {
     /// Code 32 where no other reason applies, for each reason: a library that
     /// misses the one is seen by nothing else.
     bad_sets: BTreeMap<&'static str, u64>,
-    /// Code 10 at each place of a set.
-    refused_reads: [u64; Transaction::LOG_ROOM],
+    /// Code 14 and code 10 at each place of a set.
+    held_reads: [u64; Transaction::LOG_ROOM],
+    newer_reads: [u64; Transaction::LOG_ROOM],
     /// Code 33 for each group.
     negatives: [u64; GROUPS_AT_MOST],
     negatives_of_unusable: u64,
@@ -47,7 +57,8 @@ impl WearTally {
         match code {
             0 => self.note_pick(&groups_of(before, set), number as u32 as usize),
             32 => self.note_bad_set(before, set),
-            10 => self.refused_reads[place] += 1,
+            14 => self.held_reads[place] += 1,
+            10 => self.newer_reads[place] += 1,
             33 => {
                 self.negatives[place / 2] += 1;
                 let (usable, _) = groups_of(before, set)[place / 2];
@@ -95,7 +106,8 @@ impl WearTally {
         }
         let rarest = |counts: &[u64]| counts.iter().copied().min().unwrap_or(0);
         let named = [
-            ("wear code 10 at the place with fewest of them", rarest(&self.refused_reads), 20),
+            ("wear code 14 at the place with fewest of them", rarest(&self.held_reads), 15),
+            ("wear code 10 at the place with fewest of them", rarest(&self.newer_reads), 4),
             ("wear code 33 at the place with fewest of them", rarest(&self.negatives), 6),
             ("wear code 33 for a group that is not usable", self.negatives_of_unusable, 80),
             ("wear code 34 with a usable group at the last count", self.worn_out, 300),

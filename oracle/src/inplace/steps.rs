@@ -57,8 +57,10 @@ impl Turn<'_> {
         if count == Transaction::LOG_ROOM {
             return Err(Refusal::LogFull);
         }
-        if self.conflicts(self.call.cell) {
-            return Err(Refusal::NotReadable);
+        match self.other_holder(self.call.cell) {
+            0 if self.is_newer(self.call.cell) => return Err(Refusal::ReadNewer),
+            0 => {}
+            holder => return Err(Refusal::ReadHeld { holder }),
         }
         let word = u32_at(&self.cells[usize::from(self.call.cell)], CELL_WORD);
         let entry = &mut read_entries_mut(self.own)[count];
@@ -88,9 +90,7 @@ impl Turn<'_> {
 
     fn lock(self) -> Outcome {
         let cell = self.writes()[usize::from(self.own[TAKEN])][0];
-        if self.held_by_another(cell) {
-            return Err(Refusal::HeldByAnother);
-        }
+        self.not_held(cell)?;
         self.cells[usize::from(cell)][HOLDER] = self.call.slot;
         self.own[TAKEN] += 1;
         DONE
@@ -100,7 +100,8 @@ impl Turn<'_> {
         let stamp = self.next_stamp()?;
         let mut some_mark = false;
         for place in 0..self.reads().len() {
-            let marked = self.conflicts(self.reads()[place][0]);
+            let cell = self.reads()[place][0];
+            let marked = self.other_holder(cell) != 0 || self.is_newer(cell);
             read_entries_mut(self.own)[place][MARK] = marked.into();
             some_mark |= marked;
         }
@@ -130,9 +131,7 @@ impl Turn<'_> {
     }
 
     fn reload(mut self) -> Outcome {
-        if self.reads().iter().any(|read| self.held_by_another(read[0])) {
-            return Err(Refusal::HeldByAnother);
-        }
+        self.reads().iter().try_for_each(|read| self.not_held(read[0]))?;
         let stamp = self.next_stamp()?;
         let count = self.reads().len();
         for entry in &mut read_entries_mut(self.own)[..count] {
@@ -222,14 +221,26 @@ impl Turn<'_> {
         Ok(())
     }
 
-    fn held_by_another(&self, cell: u8) -> bool {
+    /// The other slot that holds the cell, 0 for none.
+    fn other_holder(&self, cell: u8) -> u8 {
         let holder = self.cells[usize::from(cell)][HOLDER];
-        holder != 0 && holder != self.call.slot
+        if holder == self.call.slot {
+            0
+        } else {
+            holder
+        }
     }
 
-    fn conflicts(&self, cell: u8) -> bool {
+    fn not_held(&self, cell: u8) -> Result<(), Refusal> {
+        match self.other_holder(cell) {
+            0 => Ok(()),
+            holder => Err(Refusal::HeldByAnother { cell, holder }),
+        }
+    }
+
+    fn is_newer(&self, cell: u8) -> bool {
         let stamp = u64_at(&self.cells[usize::from(cell)], CELL_STAMP);
-        self.held_by_another(cell) || stamp > u64_at(self.own, START)
+        stamp > u64_at(self.own, START)
     }
 
     fn next_stamp(&self) -> Result<u64, Refusal> {

@@ -67,10 +67,11 @@ pub(super) fn code_words(code: u8) -> &'static str {
         7 => "the kind differs from the cell's",
         8 => "the cell is not in the log",
         9 => "the log has 16 entries",
-        10 => "the cell is held by another slot, or newer than the start",
-        11 => "the cell is held by another slot",
+        10 => "the cell is newer than the start",
+        11 => "another slot holds a cell to be locked or reloaded",
         12 => "the clock is at its end",
         13 => "marked and not ignored: ended without commit",
+        14 => "another slot holds the cell",
         _ => "the area is not well formed",
     }
 }

@@ -196,7 +196,7 @@ impl Drawing<'_> {
 
     fn step(&mut self, lane: &Lane, column: usize, moment: &Moment) {
         let (left, width) = self.column(column);
-        if (1..=12).contains(&moment.code) {
+        if moment.is_refused() {
             let corner = (left + 2, lane.band + 2);
             let size = (width - 4, lane.band_height - 4);
             self.picture.bordered(corner, size, 4, REFUSED_FILL, ALARM);
@@ -214,8 +214,8 @@ impl Drawing<'_> {
         }
     }
 
-    /// From each step to the holds in its way, and from enter to the holds
-    /// that made it mark.
+    /// From each step to the hold in its way, and from enter to the holds that
+    /// made it mark.
     fn pointers(&mut self, lanes: &[Lane]) {
         for (column, moment) in self.row.moments.iter().enumerate() {
             for obstacle in &moment.obstacles {

@@ -126,6 +126,11 @@ impl Moment {
         }
     }
 
+    /// Whether nothing was changed: every code but 0 and 13 says so.
+    pub fn is_refused(&self) -> bool {
+        ![0, 13].contains(&self.code)
+    }
+
     /// What a lane shows during the step.
     pub fn showing(&self, lane: u8) -> Option<&Showing> {
         self.showings.get(usize::from(lane).checked_sub(1)?)
@@ -152,24 +157,31 @@ impl View<'_> {
         Showing { shade, goes_on: after.is_some(), held }
     }
 
-    /// The cells in the way of a refused step; after enter, those of its marks
-    /// that are due to a holder.
+    /// What is in the way of a refused step; after enter, those of its marks
+    /// that are due to a holder. A reload may have more than one cell in its
+    /// way: drawn is the one that its reply names, which is all that the task
+    /// is told. The next one is drawn where a later reload meets it.
     fn obstacles(&self, step: Option<Step>, reply: Reply) -> Vec<Obstacle> {
-        let Some(own) = self.before.slot(self.call.slot) else {
-            return Vec::new();
-        };
-        let read = own.reads.iter().map(|read| read.cell);
-        let cells: Vec<u8> = match (step, reply) {
-            (Some(Step::Read), Reply::Refused(Refusal::NotReadable)) => vec![self.call.cell],
-            (Some(Step::Lock), Reply::Refused(Refusal::HeldByAnother)) => {
-                self.next_lock().into_iter().collect()
+        match (step, reply) {
+            (_, Reply::Refused(Refusal::ReadHeld { holder })) => {
+                vec![Obstacle { cell: self.call.cell, holder }]
             }
-            (Some(Step::Reload), Reply::Refused(Refusal::HeldByAnother)) => read.collect(),
-            (Some(Step::Enter), Reply::Answer(_)) => read.collect(),
+            (_, Reply::Refused(Refusal::HeldByAnother { cell, holder })) => {
+                vec![Obstacle { cell, holder }]
+            }
+            (Some(Step::Enter), Reply::Answer(_)) => self.held_reads(),
             _ => Vec::new(),
-        };
-        let held = cells.into_iter().filter(|&c| self.before.held_by_another(c, self.call.slot));
-        held.map(|cell| Obstacle { cell, holder: self.before.holder(cell) }).collect()
+        }
+    }
+
+    /// The cells that were read and that another slot holds.
+    fn held_reads(&self) -> Vec<Obstacle> {
+        let reads = self.before.slot(self.call.slot).map_or(&[][..], |own| &own.reads);
+        let held = reads.iter().filter_map(|read| {
+            let holder = self.before.other_holder(read.cell, self.call.slot)?;
+            Some(Obstacle { cell: read.cell, holder })
+        });
+        held.collect()
     }
 
     /// The lowest cell of the write log that is not yet taken or published.
@@ -218,8 +230,8 @@ impl View<'_> {
         obstacle: Option<&Obstacle>,
     ) -> Option<String> {
         match (refusal, obstacle) {
-            (_, Some(Obstacle { holder, .. })) => Some(format!("held by {holder}")),
-            (Refusal::NotReadable, None) => Some(NEWER.to_string()),
+            (_, Some(Obstacle { holder, .. })) => Some(held_by(*holder)),
+            (Refusal::ReadNewer, None) => Some(NEWER.to_string()),
             _ if step.uses_value() => Some(format!(":= {}", self.brought())),
             _ => None,
         }
@@ -262,7 +274,7 @@ impl View<'_> {
         let tag = |kind, words: &str| vec![Tag { kind, words: words.to_string() }];
         match (step, reply) {
             (_, Reply::Refused(refusal)) => {
-                tag(TagKind::Refused, &format!("code {}", refusal as u8))
+                tag(TagKind::Refused, &format!("code {}", refusal.code()))
             }
             (_, Reply::Ended) | (Some(Step::GiveUp), _) => tag(TagKind::NoCommit, "no commit"),
             (Some(Step::Finish), _) => tag(TagKind::Commit, "commit"),
@@ -287,10 +299,8 @@ impl View<'_> {
             _ => Vec::new(),
         };
         for cell in marked {
-            let reason = match self.before.held_by_another(cell, self.call.slot) {
-                true => format!("held by {}", self.before.holder(cell)),
-                false => NEWER.to_string(),
-            };
+            let holder = self.before.other_holder(cell, self.call.slot);
+            let reason = holder.map_or_else(|| NEWER.to_string(), held_by);
             if !lines.contains(&reason) {
                 lines.push(reason);
             }
@@ -322,6 +332,11 @@ pub(super) fn words(value: Value) -> String {
         // As in the text form: both zeros are told apart.
         Value::Real(real) => format!("{real:?}"),
     }
+}
+
+/// Who is in the way, by the name of the lane.
+fn held_by(holder: u8) -> String {
+    format!("held by {}", lane_name(holder))
 }
 
 /// What stands at the left of a lane.

@@ -98,7 +98,7 @@ fn add_columns(out: &mut String, name: &str, page: &[Moment], word: impl Fn(&Mom
 fn phase_letters(moment: &Moment, lane: u8) -> String {
     let letter = moment.showing(lane).map_or(' ', letter);
     let mut letters = letter.to_string().repeat(column_width(moment) - 1);
-    if moment.lane == lane && (1..=12).contains(&moment.code) {
+    if moment.lane == lane && moment.is_refused() {
         letters.replace_range(..1, "!");
     }
     letters

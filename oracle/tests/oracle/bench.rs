@@ -20,6 +20,16 @@ pub fn refused(code: u8) -> Answer {
     (code, 0, 0)
 }
 
+/// A read of a cell that this slot holds.
+pub fn read_held(holder: u32) -> Answer {
+    (14, 2, holder)
+}
+
+/// A lock or a reload that needs this cell, held by this slot.
+pub fn held_by_another(cell: u32, holder: u32) -> Answer {
+    (11, 2, cell * 256 + holder)
+}
+
 #[derive(Clone)]
 pub struct Bench {
     pub machine: Machine,
@@ -86,8 +96,9 @@ impl Bench {
         assert!(peek::well_formed(&self.bytes), "{call:?}");
         let answer = ((number >> 40) as u8, (number >> 32) as u8, number as u32);
         assert_eq!(answer.0, peek::code_of(&before.peek(), call), "{call:?}");
-        if (1..=12).contains(&answer.0) {
-            assert_eq!(answer, refused(answer.0), "{call:?}");
+        if ![0, 13].contains(&answer.0) {
+            let told = peek::told(&before.peek(), answer.0, call);
+            assert_eq!((answer.1, answer.2), told, "{call:?}");
             assert_eq!(before.bytes, self.bytes, "{call:?}");
             assert_eq!(before.machine, self.machine, "{call:?}");
         }

@@ -8,6 +8,7 @@ use oracle::{describe, lay_out_on_bytes, run, BadSheet, Sheet};
 use crate::fuzzing::{step, StepOnBytes, WRONG_STEPS};
 use crate::peek::Peek;
 use crate::sheets::s_binary;
+use crate::wrong_obstacles::WRONG_OBSTACLES;
 
 type Program = fn(&Case) -> Given;
 
@@ -282,7 +283,10 @@ fn what_is_right_passes_and_every_least_count_is_reached() {
 fn a_run_that_reaches_little_is_told_so() {
     let tally = compared(&|case| prints(right(case)), 40).unwrap_or_else(|fail| panic!("{fail}"));
     let short = tally.short(2_000);
-    for name in ["commits", "enters that mark", "reloads", "ignores", "aborts", "random sheets"] {
+    let held =
+        ["code 14:", "code 11 of lock:", "code 11 of reload:", "code 11 of reload, the first"];
+    let others = ["commits", "enters that mark", "reloads", "ignores", "aborts", "random sheets"];
+    for name in held.into_iter().chain(others) {
         assert!(short.iter().any(|line| line.starts_with(name)), "{name}: {short:?}");
     }
 }
@@ -306,6 +310,26 @@ fn every_wrong_core_is_caught() {
         }
     }
     assert_eq!(caught, WRONG_STEPS.len() - OUT_OF_REACH.len());
+}
+
+/// By the sheets at the edges alone, without a random one.
+#[test]
+fn every_wrong_word_on_who_is_in_the_way_is_caught() {
+    for (name, wrong) in WRONG_OBSTACLES {
+        let failure = compared(&|case| run_on_area(case, wrong), 0).expect_err(name);
+        let is_edge = edge_sheets().iter().any(|case| case.name == failure.case.name);
+        assert!(is_edge, "{name}: {}", failure.case.name);
+    }
+}
+
+#[test]
+fn e11_is_among_the_sheets_at_the_edges() {
+    let e11 = edge_sheets().into_iter().find(|case| case.name == "E11").expect("the sheet");
+    let lines = right(&e11);
+    assert!(
+        lines.contains("\n6 14 2 00000001\n") && lines.contains("\n9 11 2 00000001\n"),
+        "{lines}"
+    );
 }
 
 #[test]

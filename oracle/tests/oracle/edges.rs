@@ -95,10 +95,10 @@ fn e11_a_cell_that_another_slot_holds() {
     let mut bench = Bench::of_the_edges();
     bench.make_all(&["begin 1", "write 1 0 whole 6", "close 1", "lock 1", "begin 2"]);
     assert_eq!(bench.machine.holder(0), 1);
-    assert_eq!(bench.make("read 2 0"), refused(10));
+    assert_eq!(bench.make("read 2 0"), (14, 2, 1));
     assert_eq!(bench.make("write 2 0 whole 7"), DONE);
     assert_eq!(bench.make("close 2"), DONE);
-    assert_eq!(bench.make("lock 2"), refused(11));
+    assert_eq!(bench.make("lock 2"), (11, 2, 1));
 }
 
 #[test]

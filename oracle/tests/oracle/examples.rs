@@ -3,17 +3,18 @@
 
 use oracle::{run, text};
 
-use crate::bench::{refused, whole, Answer, DONE, FALSE, TRUE};
+use crate::bench::{held_by_another, read_held, refused, whole, Answer, DONE, FALSE, TRUE};
 
 pub const FOLDER: &str = concat!(env!("CARGO_MANIFEST_DIR"), "/../examples/sheets");
 
 /// Those with a test below, and sheet S, whose output the document gives.
-pub const NAMES: [&str; 13] = [
+pub const NAMES: [&str; 14] = [
     "blocked",
     "codes",
     "eight-slots",
     "full-log",
     "give-up",
+    "held-or-newer",
     "ignore",
     "late-writer",
     "no-steps",
@@ -90,7 +91,7 @@ fn a_repair_by_reload() {
     assert_eq!(shown.answers("enter 1"), [FALSE]);
     assert_eq!(shown.answers("ask 1 0"), [TRUE, FALSE]);
     assert_eq!(shown.answers("ask 1 1"), [FALSE]);
-    assert_eq!(shown.answers("reload 1"), [refused(11), DONE]);
+    assert_eq!(shown.answers("reload 1"), [held_by_another(0, 2), DONE]);
     assert_eq!(shown.answers("reread 1 0"), [whole(9)]);
     assert_eq!(shown.answers("reread 1 1"), [whole(7)]);
     assert_eq!(shown.answers("finish 1"), [DONE]);
@@ -119,7 +120,7 @@ fn ignoring() {
 #[test]
 fn a_lost_race() {
     let shown = Shown::of("race");
-    assert_eq!(shown.answers("lock 1"), [refused(11), DONE, DONE]);
+    assert_eq!(shown.answers("lock 1"), [held_by_another(0, 2), DONE, DONE]);
     assert_eq!(shown.answers("enter 1"), [FALSE, TRUE]);
     assert_eq!(shown.answers("finish 1"), [refused(13), DONE]);
     assert_eq!(shown.answers("read 1 0"), [whole(10), whole(11)]);
@@ -133,8 +134,9 @@ fn two_slots_that_block_each_others_reload() {
     let shown = Shown::of("blocked");
     assert_eq!(shown.answers("enter 1"), [FALSE]);
     assert_eq!(shown.answers("enter 2"), [FALSE]);
-    assert_eq!(shown.answers("reload 1"), [refused(11), refused(11), DONE]);
-    assert_eq!(shown.answers("reload 2"), [refused(11), refused(11)]);
+    let by_slot_2 = held_by_another(0, 2);
+    assert_eq!(shown.answers("reload 1"), [by_slot_2, by_slot_2, DONE]);
+    assert_eq!(shown.answers("reload 2"), [held_by_another(1, 1); 2]);
     assert_eq!(shown.answers("give up 2"), [DONE]);
     assert_eq!(shown.answers("reread 1 0"), [whole(1)]);
     assert_eq!(shown.rest, ["cell 0 2 00000001 0 0", "cell 1 2 0000000a 3 0", "clock 3"]);
@@ -160,9 +162,9 @@ fn a_full_log() {
 }
 
 #[test]
-fn every_code_from_2_to_11() {
+fn every_code_from_2_to_11_and_14() {
     let shown = Shown::of("codes");
-    assert_eq!(shown.codes(), [2, 3, 4, 5, 6, 7, 8, 9, 10, 11]);
+    assert_eq!(shown.codes(), [2, 3, 4, 5, 6, 7, 8, 9, 14, 10, 11]);
     let by_step = [
         ("step 0 9 0 0 0x00000000", 2),
         ("begin 9", 3),
@@ -170,14 +172,52 @@ fn every_code_from_2_to_11() {
         ("write 1 1 raw 1 0x00000002", 6),
         ("write 1 1 whole 0", 7),
         ("reread 1 0", 8),
-        ("lock 1", 11),
     ];
     for (step, code) in by_step {
         assert_eq!(shown.answers(step), [refused(code)], "{step}");
     }
-    // Idle, then with a full log, then of a held cell.
-    assert_eq!(shown.answers("read 1 0"), [refused(4), refused(9), refused(10)]);
-    assert_eq!(shown.rest[0], "cell 0 2 00000005 0 2");
+    // Idle, with a full log, of a held cell, and of one that is newer by then.
+    let reads = [refused(4), refused(9), read_held(2), refused(10)];
+    assert_eq!(shown.answers("read 1 0"), reads);
+    assert_eq!(shown.answers("lock 1"), [held_by_another(3, 2)]);
+    assert_eq!(shown.rest[0], "cell 0 2 00000009 2 0");
+    assert_eq!(shown.rest[3], "cell 3 2 00000003 0 2");
+}
+
+#[test]
+fn held_or_newer() {
+    let shown = Shown::of("held-or-newer");
+    assert_eq!(shown.answers("read 3 0"), [read_held(1), whole(5), whole(5)]);
+    assert_eq!(shown.answers("read 3 1"), [read_held(2), refused(10), whole(70)]);
+    assert_eq!(shown.answers("begin 3"), [DONE, DONE]);
+    let in_the_way = [held_by_another(1, 2), held_by_another(0, 1)];
+    assert_eq!(shown.answers("reload 3"), [in_the_way[0], in_the_way[1], DONE]);
+    assert_eq!(shown.answers("finish 3"), [DONE]);
+    assert_eq!(shown.codes(), [14, 14, 10, 11, 11]);
+    assert_eq!(shown.rest, ["cell 0 2 00000005 0 0", "cell 1 2 00000046 1 0", "clock 3"]);
+}
+
+/// A comment at a step that begins with a number tells the code, and with it
+/// the word if there is one. Every code but 0 is told so.
+#[test]
+fn comments_at_steps_tell_what_they_get() {
+    let told = |line: &str| {
+        let (_, comment) = line.split_once('#')?;
+        let number = comment.trim().split(':').next()?;
+        let (code, word) = number.split_once(", ").unwrap_or((number, "00000000"));
+        Some((code.parse::<u8>().ok()?, u32::from_str_radix(word, 16).ok()?))
+    };
+    for name in NAMES {
+        let text = std::fs::read_to_string(format!("{FOLDER}/{name}.txt")).expect("a text");
+        let is_step =
+            |line: &&str| !line.is_empty() && !line.starts_with('#') && !line.starts_with("cell ");
+        let lines: Vec<&str> = text.lines().filter(is_step).collect();
+        let steps = Shown::of(name).steps;
+        assert_eq!(lines.len(), steps.len(), "{name}");
+        for (line, (_, (code, _, word))) in lines.into_iter().zip(steps) {
+            assert_eq!(told(line), (code != 0).then_some((code, word)), "{name}: {line}");
+        }
+    }
 }
 
 #[test]
@@ -231,7 +271,7 @@ fn a_late_writer() {
     let shown = Shown::of("late-writer");
     assert_eq!(shown.answers("enter 1"), [FALSE]);
     assert_eq!(shown.answers("finish 1"), [refused(13)]);
-    assert_eq!(shown.answers("read 3 0"), [refused(10), whole(9)]);
+    assert_eq!(shown.answers("read 3 0"), [read_held(2), whole(9)]);
     assert_eq!(shown.rest, ["cell 0 2 00000009 1 0", "clock 2"]);
 }
 
@@ -241,8 +281,8 @@ fn publishing_one_by_one() {
     assert_eq!(shown.answers("publish 4"), [DONE]);
     // Slot 5 began after the stamp was given, so what is published is readable.
     assert_eq!(shown.answers("read 5 0"), [whole(-1)]);
-    assert_eq!(shown.answers("read 5 1"), [refused(10)]);
-    assert_eq!(shown.answers("lock 5"), [DONE, refused(11)]);
+    assert_eq!(shown.answers("read 5 1"), [read_held(4)]);
+    assert_eq!(shown.answers("lock 5"), [DONE, held_by_another(2, 4)]);
     let rest =
         ["cell 0 2 ffffffff 1 5", "cell 1 1 00000000 0 4", "cell 2 3 3fc00000 0 4", "clock 1"];
     assert_eq!(shown.rest, rest);

@@ -5,6 +5,7 @@ use oracle::{lay_out_on_bytes, step_in_place, step_on_bytes, wear_in_place, wear
 
 use crate::peek::Peek;
 use crate::slips::{self, Slip, Wear, BAD_SETS_TAKEN, SLIPS};
+use crate::wrong_obstacles::WRONG_OBSTACLES;
 
 pub type StepOnBytes = fn(&mut [u8], Call) -> u64;
 type LayOut = fn(&mut [u8], &[u8]) -> u64;
@@ -177,17 +178,43 @@ fn a_run_that_reaches_little_is_told_so() {
     let short = tally.short();
     let is_told = |start: &str| short.iter().any(|line| line.starts_with(start));
     assert!(is_told("code 12") && is_told("broken alone: version 1"), "{short:?}");
-    for code in [0, 1, 3, 4, 10, 32, 33, 34] {
+    for code in [0, 1, 3, 4, 10, 14, 32, 33, 34] {
         assert!(is_told(&format!("wear code {code}:")), "{code} in {short:?}");
     }
     for reason in ["no byte", "an odd", "more than", "a cell not", "a cell twice", "a cell of"] {
         let start = format!("wear code 32 for this alone: {reason}");
         assert!(is_told(&start), "{start} in {short:?}");
     }
-    let more = ["wear code 10 at", "wear code 33 at", "wear code 33 for", "wear code 34 with"];
+    let more = ["10 at", "14 at", "33 at", "33 for", "34 with"].map(|of| format!("wear code {of}"));
     let picks = ["picks of a", "picks of the", "picks on", "picks beside", "commits of tasks"];
-    for start in more.into_iter().chain(picks) {
+    for start in more.iter().map(String::as_str).chain(picks) {
         assert!(is_told(start), "{start} in {short:?}");
+    }
+}
+
+/// Lay-outs only, so that no slot is ever in another one's way.
+#[test]
+fn a_run_with_no_one_in_the_way_is_told_so() {
+    let mut tally = Tally::default();
+    for round in (6..20_000).step_by(10) {
+        one_round(RIGHT, 1, round, &mut tally).unwrap_or_else(|failure| panic!("{failure}"));
+    }
+    let short = tally.short();
+    let starts = [
+        "code 10:",
+        "code 14:",
+        "code 11 of lock:",
+        "code 11 of reload:",
+        "code 11 of reload, the first is not the lowest:",
+        "code 11 of reload, the first is not the highest:",
+        "code 11 of reload, the first is not the last:",
+        "code 14 of a cell that is newer, too:",
+        "code 9 of a read of a held cell:",
+        "code 11 with the holder that is told least:",
+        "code 14 with the holder that is told least:",
+    ];
+    for start in starts {
+        assert!(short.iter().any(|line| line.starts_with(start)), "{start} in {short:?}");
     }
 }
 
@@ -195,6 +222,17 @@ fn a_run_that_reaches_little_is_told_so() {
 fn every_wrong_step_is_caught() {
     for (name, step) in WRONG_STEPS {
         assert!(run(Library { step, ..RIGHT }, 50_000).is_err(), "{name}");
+    }
+}
+
+/// By the answer alone: no byte of the area differs.
+#[test]
+fn every_wrong_word_on_who_is_in_the_way_is_caught() {
+    for (name, step) in WRONG_OBSTACLES {
+        let failure = run(Library { step, ..RIGHT }, 50_000).expect_err(name);
+        println!("{name}: round {}", failure.round);
+        let is_answer = failure.report.contains("answer: wanted code");
+        assert!(is_answer && !failure.report.contains("its byte"), "{name}: {failure}");
     }
 }
 

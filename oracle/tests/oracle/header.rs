@@ -46,16 +46,31 @@ fn codes_of_steps() {
         ("OTHER_KIND", OtherKind),
         ("NOT_IN_LOG", NotInLog),
         ("LOG_FULL", LogFull),
-        ("NOT_READABLE", NotReadable),
-        ("HELD_BY_ANOTHER", HeldByAnother),
+        ("READ_NEWER", ReadNewer),
+        ("HELD_BY_ANOTHER", HeldByAnother { cell: 63, holder: 8 }),
         ("LAST_STAMP", ClockAtEnd),
+        ("READ_HELD", ReadHeld { holder: 8 }),
     ];
     for (name, refusal) in refusals {
-        check(&format!("CODE_{name}"), refusal as u8);
+        check(&format!("CODE_{name}"), refusal.code());
     }
     check("CODE_DONE", Reply::Done.code());
     check("CODE_ABORTED", Reply::Ended.code());
-    assert_eq!(names_with("CODE"), 14);
+    assert_eq!(names_with("CODE"), 15);
+}
+
+/// The macros take apart what the replies put together. What they are in C is
+/// run by the examples in C; here their text is compared.
+#[test]
+fn cell_and_holder_in_a_word() {
+    let holder = "((unsigned)((uint32_t)(word) & 255))";
+    let cell = "((unsigned)((uint32_t)(word) >> 8))";
+    assert_eq!(defined("HOLDER(word)"), Some(holder));
+    assert_eq!(defined("HELD_CELL(word)"), Some(cell));
+    let word = Reply::Refused(Refusal::HeldByAnother { cell: 63, holder: 8 }).word();
+    assert_eq!((word >> 8, word & 255), (63, 8));
+    let word = Reply::Refused(Refusal::ReadHeld { holder: 8 }).word();
+    assert_eq!(word & 255, 8);
 }
 
 #[test]

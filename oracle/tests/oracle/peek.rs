@@ -106,6 +106,10 @@ impl Peek<'_> {
     fn held_by_another(&self, cell: usize, slot: u8) -> bool {
         ![0, slot].contains(&self.holder(cell))
     }
+
+    fn is_newer(&self, cell: usize, slot: u8) -> bool {
+        self.stamp(cell) > self.start(slot)
+    }
 }
 
 pub fn legal(kind: u8, word: u32) -> bool {
@@ -195,11 +199,40 @@ fn holders_are_good(peek: &Peek) -> bool {
     (0..peek.n()).all(|cell| peek.holder(cell) == holders[cell])
 }
 
-/// The code of a call on a well-formed area: the lowest that applies, 13 if
+/// The codes of refusals in the order in which they are tested: 14 is at the
+/// place of 10 and before it.
+const TESTED: [u8; 12] = [2, 3, 4, 5, 6, 7, 8, 9, 14, 10, 11, 12];
+
+/// The code of a call on a well-formed area: the first that applies, 13 if
 /// the transaction ends without commit, else 0.
 pub fn code_of(peek: &Peek, call: Call) -> u8 {
-    let refusal = (2..=12).find(|code| applies(peek, *code, call));
+    let refusal = TESTED.into_iter().find(|code| applies(peek, *code, call));
     refusal.unwrap_or_else(|| if ends_without_commit(peek, call) { 13 } else { 0 })
+}
+
+/// Kind and word of a refusal with this code: 0 for all but 11 and 14.
+pub fn told(peek: &Peek, code: u8, call: Call) -> (u8, u32) {
+    let holder = |cell: usize| u32::from(peek.holder(cell));
+    match code {
+        14 => (2, holder(call.cell.into())),
+        11 => {
+            let cell = held_in_the_way(peek, call).expect("a held cell");
+            (2, cell as u32 * 256 + holder(cell))
+        }
+        _ => (0, 0),
+    }
+}
+
+/// The cell that keeps a lock or a reload from being done. A reload looks at
+/// the cells in the order of the read log.
+fn held_in_the_way(peek: &Peek, call: Call) -> Option<usize> {
+    let slot = call.slot;
+    let cells = match call.step {
+        5 => vec![peek.write_cells(slot)[peek.taken(slot)]],
+        10 => peek.read_cells(slot),
+        _ => vec![],
+    };
+    cells.into_iter().find(|cell| peek.held_by_another(*cell, slot))
 }
 
 fn ends_without_commit(peek: &Peek, call: Call) -> bool {
@@ -228,12 +261,9 @@ fn applies(peek: &Peek, code: u8, call: Call) -> bool {
             3 => !peek.write_cells(slot).contains(&cell) && peek.writes(slot) == 16,
             _ => false,
         },
-        10 => step == 2 && reads_shared(peek, slot, cell) && conflicts(peek, slot, cell),
-        11 => match step {
-            5 => peek.held_by_another(peek.write_cells(slot)[peek.taken(slot)], slot),
-            10 => peek.read_cells(slot).iter().any(|cell| peek.held_by_another(*cell, slot)),
-            _ => false,
-        },
+        14 => step == 2 && reads_shared(peek, slot, cell) && peek.held_by_another(cell, slot),
+        10 => step == 2 && reads_shared(peek, slot, cell) && peek.is_newer(cell, slot),
+        11 => held_in_the_way(peek, call).is_some(),
         12 => [6, 10].contains(&step) && peek.clock() == u64::MAX,
         _ => false,
     }
@@ -255,5 +285,5 @@ fn reads_shared(peek: &Peek, slot: u8, cell: usize) -> bool {
 }
 
 pub fn conflicts(peek: &Peek, slot: u8, cell: usize) -> bool {
-    peek.held_by_another(cell, slot) || peek.stamp(cell) > peek.start(slot)
+    peek.held_by_another(cell, slot) || peek.is_newer(cell, slot)
 }

@@ -3,7 +3,7 @@
 
 use oracle::{Phase, Value};
 
-use crate::bench::{refused, whole, Bench, DONE, FALSE, TRUE};
+use crate::bench::{held_by_another, read_held, refused, whole, Bench, DONE, FALSE, TRUE};
 
 /// Slot 1 in twilight with cell 0 read and marked: slot 2 has published 9.
 /// Slot 1 writes cell 1.
@@ -82,7 +82,7 @@ fn a_held_cell_is_not_readable_whatever_its_holders_phase() {
         held_by_slot_2(&mut bench, more);
         // Begun after the holder's stamp: the cell's own stamp is low.
         bench.make_all(&["begin 1"]);
-        assert_eq!(bench.make("read 1 0"), refused(10), "{more:?}");
+        assert_eq!(bench.make("read 1 0"), read_held(2), "{more:?}");
     }
 }
 
@@ -181,7 +181,7 @@ fn a_full_log_is_told_before_a_held_cell() {
     held_by_slot_2(&mut bench, &[]);
     bench.make_all(&["begin 1"]);
     for cell in 1..=16 {
-        assert_eq!(bench.make("read 1 0"), refused(10));
+        assert_eq!(bench.make("read 1 0"), read_held(2));
         bench.make_all(&[&format!("read 1 {cell}")]);
     }
     assert_eq!(bench.make("read 1 0"), refused(9));
@@ -232,7 +232,7 @@ fn reload_of_a_held_cell_is_told_before_the_end_of_the_clock() {
     bench.make_all(&["begin 1", "read 1 0", "close 1", "enter 1"]);
     assert_eq!(bench.make("reload 1"), refused(12));
     held_by_slot_2(&mut bench, &[]);
-    assert_eq!(bench.make("reload 1"), refused(11));
+    assert_eq!(bench.make("reload 1"), held_by_another(0, 2));
     bench.make_all(&["give up 2"]);
     assert_eq!(bench.make("reload 1"), refused(12));
 }
@@ -246,8 +246,8 @@ fn two_slots_that_hold_what_the_other_has_read() {
     assert_eq!(bench.make("enter 1"), FALSE);
     assert_eq!(bench.make("enter 2"), FALSE);
     for _ in 0..3 {
-        assert_eq!(bench.make("reload 1"), refused(11));
-        assert_eq!(bench.make("reload 2"), refused(11));
+        assert_eq!(bench.make("reload 1"), held_by_another(0, 2));
+        assert_eq!(bench.make("reload 2"), held_by_another(1, 1));
     }
     assert_eq!(bench.make("finish 2"), refused(13));
     assert_eq!(bench.make("reload 1"), DONE);

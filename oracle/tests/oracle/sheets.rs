@@ -113,6 +113,15 @@ fn a_held_cell_is_printed_with_its_holder() {
 }
 
 #[test]
+fn who_is_in_the_way_is_printed_in_kind_and_word() {
+    let lines = "cell whole 1\ncell whole 2\nbegin 3\nwrite 3 1 whole 1\nclose 3\nlock 3
+        begin 5\nread 5 1\nwrite 5 1 whole 2\nclose 5\nlock 5\n";
+    let output = run::run_either(lines.as_bytes()).expect("a good text");
+    let [read, lock] = ["\n6 14 2 00000003\n", "\n9 11 2 00000103\n"];
+    assert!(output.contains(read) && output.contains(lock), "{output}");
+}
+
+#[test]
 fn words_are_printed_in_8_lower_case_hex_digits() {
     let lines = "cell whole 0xabcdef\ncell real -0.0\nbegin 1\nread 1 0\nread 1 1\n";
     let output = "1 0 0 00000000\n2 0 2 00abcdef\n3 0 3 80000000\n\

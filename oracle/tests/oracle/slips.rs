@@ -39,6 +39,9 @@ slips! {
         ErasesCellFirst,
         PlaceOneTooHigh,
         PlaceOfTheGroup,
+        PassesTheCodeAlone,
+        OwnSlotAsHolder,
+        TenForAHeldCell,
         NegativeBeforeTheReads,
         SlotBeforeSet,
         LogsMayHaveEntries,
@@ -117,7 +120,7 @@ fn level(area: &mut [u8], set: &[u8], slot: u8, slip: Slip) -> u64 {
             if slip == Slip::DropsTheReads {
                 area.copy_from_slice(&before);
             }
-            return number + told(place, slip);
+            return passed_on(number, slot, slip) + told(place, slip);
         }
         words[place] = number as u32;
     }
@@ -134,6 +137,17 @@ fn level(area: &mut [u8], set: &[u8], slot: u8, slip: Slip) -> u64 {
     let place = 2 * group + 1;
     step_on_bytes(area, 3, slot, set[place], 2, words[place].wrapping_add(more));
     (2 << 32) + group as u64
+}
+
+/// What the core has replied.
+fn passed_on(number: u64, slot: u8, slip: Slip) -> u64 {
+    let held = number >> 40 == 14;
+    match slip {
+        Slip::PassesTheCodeAlone => number >> 40 << 40,
+        Slip::OwnSlotAsHolder if held => (number >> 8 << 8) + u64::from(slot),
+        Slip::TenForAHeldCell if held => 10 << 40,
+        _ => number,
+    }
 }
 
 /// The part of the number that tells the place.

@@ -16,11 +16,11 @@ fn example(name: &str) -> Vec<u8> {
 }
 
 /// A sheet with both forms of its timeline.
-struct Case {
-    name: String,
-    sheet: Sheet,
-    plain: String,
-    svg: String,
+pub struct Case {
+    pub name: String,
+    pub sheet: Sheet,
+    pub plain: String,
+    pub svg: String,
 }
 
 impl Case {
@@ -29,7 +29,7 @@ impl Case {
         Case { name, sheet, plain: timeline.plain(), svg }
     }
 
-    fn example(name: &str) -> Case {
+    pub fn example(name: &str) -> Case {
         let bytes = example(name);
         let sheet = text::assemble(&bytes).expect("a good text");
         Case::of(name.to_string(), sheet, &Timeline::read(&bytes).expect("a good text"))
@@ -45,12 +45,12 @@ impl Case {
     }
 
     /// The examples and 200 random sheets.
-    fn all() -> impl Iterator<Item = Case> {
+    pub fn all() -> impl Iterator<Item = Case> {
         NAMES.into_iter().map(Case::example).chain((0..200).map(Case::random))
     }
 
     /// Each step with its place, the machine before it and the reply.
-    fn steps(&self) -> Vec<(usize, Call, Machine, Reply)> {
+    pub fn steps(&self) -> Vec<(usize, Call, Machine, Reply)> {
         let mut machine = Machine::fresh(self.sheet.cells()).expect("a good sheet");
         let made = (1..).zip(self.sheet.calls()).map(|(place, &call)| {
             let before = machine.clone();
@@ -71,13 +71,13 @@ impl Case {
     }
 
     /// The words at a step, in the picture and in the plain form.
-    fn both_columns(&self, drawing: &Drawing, place: usize) -> [Vec<String>; 2] {
+    pub fn both_columns(&self, drawing: &Drawing, place: usize) -> [Vec<String>; 2] {
         let plain = plain_column(&self.plain, place).into_iter().map(|(_, words)| words);
         [drawing.words_at(place), plain.collect()]
     }
 }
 
-fn has(column: &[String], words: &str) -> bool {
+pub fn has(column: &[String], words: &str) -> bool {
     column.iter().any(|line| line == words)
 }
 
@@ -238,24 +238,6 @@ fn sheet_s_at_the_steps_that_matter() {
 }
 
 #[test]
-fn conflicts_point_at_the_holder() {
-    let blocked = Case::example("blocked");
-    let drawing = Drawing::of(&blocked.svg);
-    assert_eq!(drawing.words_at(11), ["mark 0", "stamp 1", "enter", "cell 0", "held by 2"]);
-    assert_eq!(drawing.words_at(13), ["code 11", "reload", "cell 0", "held by 2"]);
-    assert_eq!(drawing.words_at(14), ["code 11", "reload", "cell 1", "held by 1"]);
-    assert_eq!(drawing.words_at(17), ["no commit", "give up"]);
-    // Four refused reloads, a mark of each enter, and both kinds in the legend.
-    assert_eq!(blocked.svg.matches("<circle").count(), 4 + 2 + 2);
-    // The cell is free by then and only newer, so there is no one to point at.
-    let newer = b"cell whole 5\nbegin 1\nbegin 2\nwrite 2 0 whole 6\nclose 2\nlock 2\nenter 2\n\
-        finish 2\npublish 2\nread 1 0\n";
-    let svg = Timeline::read(newer).expect("a good text").svg().expect("not too long");
-    assert_eq!(Drawing::of(&svg).words_at(9), ["code 10", "read", "cell 0", "is newer"]);
-    assert_eq!(svg.matches("<circle").count(), 0);
-}
-
-#[test]
 fn the_plain_form_of_a_short_sheet() {
     let sheet = b"# Two: one loses.\ncell whole 5\nbegin 1\nwrite 1 0 whole 6\nclose 1\nlock 1\n\
         begin 2\nread 2 0\nenter 1\ngive up 1\n";
@@ -263,17 +245,17 @@ fn the_plain_form_of_a_short_sheet() {
 Two
 One loses.
 
-step    1       2      3     4      5       6         7        8
-slot 1  ooooooo oooooo lllll LLLLLL LLLLLLL LLLLLLLLL TTTTTTTT TTTTTTTTT
-        begin   write  close lock                     enter    give up
-        start 0 cell 0       cell 0                   no marks no commit
-                := 6                                  stamp 1
-slot 2  ....... ...... ..... ...... ooooooo !oooooooo oooooooo ooooooooo
+step    1       2      3     4      5       6              7        8
+slot 1  ooooooo oooooo lllll LLLLLL LLLLLLL LLLLLLLLLLLLLL TTTTTTTT TTTTTTTTT
+        begin   write  close lock                          enter    give up
+        start 0 cell 0       cell 0                        no marks no commit
+                := 6                                       stamp 1
+slot 2  ....... ...... ..... ...... ooooooo !ooooooooooooo oooooooo ooooooooo
                                     begin   read
                                     start 0 cell 0
-                                            held by 1
-                                            code 10
-clock   0       0      0     0      0       0         1        1
+                                            held by slot 1
+                                            code 14
+clock   0       0      0     0      0       0              1        1
 
 cell  kind   at first  at the end  stamp  holder
 0     whole  5         5           0      none
@@ -281,7 +263,7 @@ clock 1
 
 phases: . idle, o open, l locking, t twilight, p publishing;
         in capitals while the slot holds a cell, with ! where a step is refused
-code 10: the cell is held by another slot, or newer than the start
+code 14: another slot holds the cell
 ";
     let plain = Timeline::read(sheet).expect("a good text").plain();
     assert_eq!(plain, expected);

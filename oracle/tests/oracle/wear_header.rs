@@ -6,13 +6,14 @@ const CORE_HEADER: &str = include_str!("../../../include/crocktendril.h");
 const GUIDE: &str = include_str!("../../../docs/GUIDE.md");
 
 /// The codes in the order in which they are tested, with their numbers.
-const CODES: [(&str, u8); 8] = [
+const CODES: [(&str, u8); 9] = [
     ("DONE", 0),
     ("NOT_WELL_FORMED", 1),
     ("BAD_SET", 32),
     ("NO_SUCH_SLOT", 3),
     ("NOT_ALLOWED", 4),
-    ("NOT_READABLE", 10),
+    ("READ_HELD", 14),
+    ("READ_NEWER", 10),
     ("NEGATIVE_COUNT", 33),
     ("NONE_LEFT", 34),
 ];

@@ -1,7 +1,10 @@
 //! Tasks that meet: a read refused because of another task, and tasks that
 //! level on one set.
 
-use super::{begun, code_at, hold_by_slot_2, picked, reads, refuses, set_of, wear, writes};
+use super::Answer;
+use super::{
+    begun, code_at, held_at, hold_by_slot_2, picked, reads, refuses, set_of, wear, writes,
+};
 use crate::bench::{refused, whole, Bench, DONE, FALSE, TRUE};
 
 /// Slot 2 publishes the cell's own value, so that its stamp is newer.
@@ -12,12 +15,14 @@ fn renew_by_slot_2(bench: &mut Bench, cell: u8) {
 
 #[test]
 fn a_refused_read_is_told_with_its_place_and_leaves_the_reads_before_it() {
-    let meets: [fn(&mut Bench, u8); 2] = [hold_by_slot_2, renew_by_slot_2];
-    for meet in meets {
+    type Meeting = (fn(&mut Bench, u8), fn(u64) -> Answer);
+    let meetings: [Meeting; 2] =
+        [(hold_by_slot_2, held_at), (renew_by_slot_2, |place| code_at(place, 10))];
+    for (meet, answer) in meetings {
         for place in 0..16 {
             let mut bench = begun(&[(true, 6); 8]);
             meet(&mut bench, place);
-            assert_eq!(wear(&mut bench, &set_of(8), 1), code_at(place.into(), 10));
+            assert_eq!(wear(&mut bench, &set_of(8), 1), answer(place.into()));
             let before: Vec<(u8, u32)> =
                 (0..place).map(|cell| (cell, if cell % 2 == 0 { 1 } else { 6 })).collect();
             assert_eq!(reads(&bench, 1), before);
@@ -31,10 +36,36 @@ fn the_first_refused_read_is_told() {
     let mut bench = begun(&[(true, 6); 4]);
     renew_by_slot_2(&mut bench, 6);
     hold_by_slot_2(&mut bench, 3);
-    assert_eq!(wear(&mut bench, &set_of(4), 1), code_at(3, 10));
+    assert_eq!(wear(&mut bench, &set_of(4), 1), held_at(3));
     assert_eq!(reads(&bench, 1).len(), 3);
     // The reads are in the log now, so the logs are not empty any more.
     refuses(&bench, &set_of(4), 1, 4);
+}
+
+#[test]
+fn a_cell_that_is_held_and_newer_is_told_as_held() {
+    let mut bench = begun(&[(true, 6); 4]);
+    renew_by_slot_2(&mut bench, 5);
+    hold_by_slot_2(&mut bench, 5);
+    assert_eq!(wear(&mut bench, &set_of(4), 1), held_at(5));
+    bench.make_all(&["give up 2", "give up 1"]);
+    // The stamp is not above a later start.
+    bench.make_all(&["begin 1"]);
+    assert_eq!(wear(&mut bench, &set_of(4), 1), picked(0));
+}
+
+/// Whoever levels, whoever holds: the word is the holder and not the caller.
+#[test]
+fn the_holder_is_told_by_its_number() {
+    for (holder, caller) in [(1, 8), (8, 1), (3, 5), (5, 3)] {
+        let mut bench = Bench::fresh(&super::cells_of(&[(true, 6); 2]));
+        let lines = ["begin H", "write H 2 truth 1", "close H", "lock H"];
+        for line in lines {
+            bench.make_all(&[&line.replace('H', &holder.to_string())]);
+        }
+        bench.make_all(&[&format!("begin {caller}")]);
+        assert_eq!(wear(&mut bench, &set_of(2), caller), (2, 14, 2, holder));
+    }
 }
 
 #[test]

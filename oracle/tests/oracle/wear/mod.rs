@@ -28,6 +28,11 @@ fn code_at(place: u64, code: u64) -> Answer {
     (place, code, 0, 0)
 }
 
+/// The cell at this place is held by slot 2.
+fn held_at(place: u64) -> Answer {
+    (place, 14, 2, 2)
+}
+
 /// Group g has its truth cell at 2 × g and its erases cell behind it.
 fn cells_of(groups: &[(bool, i32)]) -> Vec<Value> {
     let cells =

@@ -2,7 +2,7 @@
 
 use oracle::{wear_in_place, wear_on_bytes};
 
-use super::{begun, code, code_at, hold_by_slot_2, reads, refuses, wear, LAST_COUNT};
+use super::{begun, code, code_at, held_at, hold_by_slot_2, reads, refuses, wear, LAST_COUNT};
 use crate::bench::Bench;
 
 /// Slot 1 of an area with every later fault: cell 0 is held and is in the set,
@@ -66,12 +66,12 @@ fn the_slot_and_then_its_state_are_told_before_the_reads() {
 #[test]
 fn then_core_codes_then_a_negative_count_then_none_left() {
     let mut bench = all_faults();
-    assert_eq!(wear(&mut bench, &[0, 1, 2, 3], 1), code_at(0, 10));
+    assert_eq!(wear(&mut bench, &[0, 1, 2, 3], 1), held_at(0));
     assert_eq!(reads(&bench, 1), []);
 
     let mut bench = begun(&[(false, -1), (true, LAST_COUNT)]);
     hold_by_slot_2(&mut bench, 3);
-    assert_eq!(wear(&mut bench, &[0, 1, 2, 3], 1), code_at(3, 10));
+    assert_eq!(wear(&mut bench, &[0, 1, 2, 3], 1), held_at(3));
     assert_eq!(reads(&bench, 1), [(0, 0), (1, 0xffff_ffff), (2, 1)]);
 
     bench.make_all(&["give up 2", "give up 1", "begin 1"]);

@@ -123,6 +123,8 @@ fn the_number_is_put_together_as_the_table_says() {
     assert_eq!(wear_on_bytes(&mut bench.bytes.clone(), &[0, 1], 2), 0x0000_0400_0000_0000);
     assert_eq!(wear_on_bytes(&mut [], &[0, 1], 1), 0x0000_0100_0000_0000);
     hold_by_slot_2(&mut bench, 2);
+    assert_eq!(wear_on_bytes(&mut bench.bytes, &[0, 1, 2, 3], 1), 0x0002_0e02_0000_0002);
+    bench.make_all(&["give up 1", "begin 1", "enter 2", "finish 2", "publish 2"]);
     assert_eq!(wear_on_bytes(&mut bench.bytes, &[0, 1, 2, 3], 1), 0x0002_0a00_0000_0000);
     let mut bench = begun(&[(true, 6), (true, 5)]);
     assert_eq!(wear_on_bytes(&mut bench.bytes, &[0, 1, 2, 3], 1), 0x0000_0002_0000_0001);

@@ -2,7 +2,7 @@
 
 use oracle::Value;
 
-use super::{begun, cells_of, code_at, hold_by_slot_2, picked};
+use super::{begun, cells_of, code_at, held_at, hold_by_slot_2, picked};
 use super::{reads, refuses, set_of, wear, writes};
 use crate::bench::Bench;
 
@@ -26,7 +26,7 @@ fn a_set_may_name_its_cells_in_any_order() {
 
     let mut bench = begun(&groups);
     hold_by_slot_2(&mut bench, 0);
-    assert_eq!(wear(&mut bench, &[4, 1, 0, 5], 1), code_at(2, 10));
+    assert_eq!(wear(&mut bench, &[4, 1, 0, 5], 1), held_at(2));
 
     let mut bench = begun(&[(true, 5), (true, -3)]);
     assert_eq!(wear(&mut bench, &[2, 1, 0, 3], 1), code_at(3, 33));
