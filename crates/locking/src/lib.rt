@@ -23,6 +23,7 @@ pub fn lock(s: &mut [u8], i: u8) -> Reply
     let next = area::write_at(s, i, v.taken);
     let cell = next.cell;
     let x = area::cell_at(s, cell);
+    let own = i + 1;
     if area::held_by_other(i, x) {
         return Reply::LockHeld {
             cell,
@@ -31,7 +32,7 @@ pub fn lock(s: &mut [u8], i: u8) -> Reply
     }
     let taken = Cell {
         kind: x.kind,
-        holder: i + 1,
+        holder: own,
         word: x.word,
         stamp: x.stamp,
     };

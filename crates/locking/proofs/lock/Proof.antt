@@ -65,6 +65,9 @@ cell-at-requires c κs =
     let entry = entry-at f write-at in
     (start .pre .0, rw (← entry) (k .writesBelow (v .taken) missing))
 
+add-own : tie.Need-add-own
+add-own c = search needs
+
 held-by-other-requires : tie.Need-held-by-other-requires
 held-by-other-requires c κs = search needs
 
@@ -86,9 +89,6 @@ returns-3 c =
     let missing : v .taken < v .writecount = omega (arith, if2) in
     let entry = entry-at f write-at in
     refuses _ (lock-11 controller _ _ refl (same phase-at if1) missing entry cell-at held-by-other (c .if3 .taken))
-
-add-t8 : tie.Need-add-t8
-add-t8 c = search needs
 
 locked-one-requires : tie.Need-locked-one-requires
 locked-one-requires c κs = search needs
@@ -144,10 +144,10 @@ lock-spec =
     returns-2
     write-at-requires
     cell-at-requires
+    add-own
     held-by-other-requires
     same-length-3
     returns-3
-    add-t8
     locked-one-requires
     store-fields-cell-requires
     same-length-4
