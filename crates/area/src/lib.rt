@@ -256,6 +256,7 @@ pub fn first_obstacle(s: &[u8], i: u8) -> Obstacle
 {
     let v = fields_at(s, i);
     let n = v.readcount as usize;
+    // entries still to be looked at
     let mut left = n;
     loop {
         if left == 0 {

@@ -1,4 +1,4 @@
--- What a reply's code, kind and word can be, and that its number holds all three. A reply that carries neither a truth value nor a cell's value has kind and word 0,
+-- What a reply's code, kind and word can be, and that its number holds all three. A reply that carries no truth value, no cell's value and no holder has kind and word 0,
 -- and code, kind and word have places of their own in the number: each is below the next one's weight.
 use mathlib.Core.Bool.{Bool}
 use mathlib.Core.List.{List, [], _∷_}
@@ -22,7 +22,7 @@ use Rattle.call.specs.Answer.{replyCode, replyKind, replyWord, replyNumb
 -- what a reply carries: a truth value, a cell's value, a holder with or without its cell, or nothing
 data Carries : Reply → Type 0 where
   truth : (b : Bool) → Carries (Verdict b)
-  held : (v : CellValue) → Carries (Value v)
+  cell-value : (v : CellValue) → Carries (Value v)
   read-holder : (holder : ℕ) → Carries (ReadHeld holder)
   lock-holder : (cell holder : ℕ) → Carries (LockHeld cell holder)
   reload-holder : (cell holder : ℕ) → Carries (ReloadHeld cell holder)
@@ -31,7 +31,7 @@ data Carries : Reply → Type 0 where
 cases : (r : Reply) → (replyCode r ≤ 14) × Carries r
 cases Done = (lit≤ tt, nothing refl refl)
 cases (Verdict b) = (lit≤ tt, truth b)
-cases (Value v) = (lit≤ tt, held v)
+cases (Value v) = (lit≤ tt, cell-value v)
 cases NotWellFormed = (lit≤ tt, nothing refl refl)
 cases NoSuchStep = (lit≤ tt, nothing refl refl)
 cases NoSuchSlot = (lit≤ tt, nothing refl refl)
@@ -58,7 +58,7 @@ refusal-bare r = by (cases r .1)
   where
     by : {r : Reply} → Carries r → (replyCode r ≡ 0 → ⊥) → (SaysWho (replyCode r) → ⊥) → (replyKind r ≡ 0) × (replyWord r ≡ 0)
     by (truth b) h who = absurd (h refl)
-    by (held v) h who = absurd (h refl)
+    by (cell-value v) h who = absurd (h refl)
     by (read-holder holder) h who = absurd (who (inr refl))
     by (lock-holder cell holder) h who = absurd (who (inl refl))
     by (reload-holder cell holder) h who = absurd (who (inl refl))
@@ -73,7 +73,7 @@ last-arm r = by (cases r .1)
   where
     by : {r : Reply} → Carries r → OneOf others (tagOf the-type r) → (0 ≡ replyKind r) × (0 ≡ replyWord r)
     by (truth b) h = absurd (miss others 1 tt h)
-    by (held v) h = absurd (miss others 2 tt h)
+    by (cell-value v) h = absurd (miss others 2 tt h)
     by (read-holder holder) h = absurd (miss others 12 tt h)
     by (lock-holder cell holder) h = absurd (miss others 14 tt h)
     by (reload-holder cell holder) h = absurd (miss others 15 tt h)
@@ -92,7 +92,7 @@ kind-bound r = by (cases r .1)
   where
     by : {r : Reply} → Carries r → replyKind r ≤ 3
     by (truth b) = lit≤ tt
-    by (held v) = kind-of-bound v
+    by (cell-value v) = kind-of-bound v
     by (read-holder holder) = lit≤ tt
     by (lock-holder cell holder) = lit≤ tt
     by (reload-holder cell holder) = lit≤ tt

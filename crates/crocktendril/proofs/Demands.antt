@@ -1,7 +1,6 @@
 -- The three demands: the contracts give one answer, and the theorems about the rules say what it is.
 use mathlib.Core.Bool.{Bool, true, false, cond}
 use mathlib.Core.List.{List, [], _∷_, map}
-use mathlib.Core.Logic.{_⊎_}
 use mathlib.Core.Path.{_≡_, refl, sym, _∙_, ap}
 use Prim.Native.Nat.{ℕ, _/_, _%_, _^_, _<_, _≤_}
 use native.Mathlib.Omega.{arith}
@@ -20,18 +19,19 @@ use Rattle.rules.specs.Outcome.{replyOf}
 use Rattle.rules.specs.Step.{Call, step}
 use Rattle.rules.specs.Layout.{pack, stateOf}
 use Rattle.rules.specs.AreaRight.{wellFormed}
-use Rattle.rules.specs.Area.{Laying, Answered, answered, stepOnBytes, atRest, describedCells, fresh, lengthsFit, layOut}
+use Rattle.rules.specs.Area.{Laying, Answered, stepOnBytes, atRest, describedCells, fresh, lengthsFit, layOut}
 use Rattle.rules.proofs.Controller.{controller-fits}
 use Rattle.rules.proofs.RoundTrip.{state-right, round-trip}
 use Rattle.rules.proofs.LaidOut.{laid-right, lays-out}
 use Rattle.history.specs.History.{Event, Demand3}
 use Rattle.history.specs.Keeps.{bytesAfter}
 use Rattle.history.specs.AreaHistory.{areaHistory}
-use Rattle.history.specs.InTheWay.{InTheWay, SaysHeld}
+use Rattle.history.specs.InTheWay.{SaysHeld}
 use Rattle.history.proofs.Keeps.{keeps}
 use Rattle.history.proofs.Keeps.OnBytes.{answered-reply, stepped-packed}
 use Rattle.history.proofs.Histories.{histories}
-use Rattle.history.proofs.InTheWay.{tells-who}
+use Rattle.history.proofs.InTheWay.{silent, Says, tells-who}
+use Rattle.history.proofs.Keeps.Lists.{cond-elim}
 use Rattle.crocktendril.specs.Contract.{Stepped}
 use Rattle.crocktendril.specs.Demands.{Demand1, Demand2, Made, inTurn, lastLeft, happened, Demand3AtC}
 use Rattle.crocktendril.proofs.Words.{formed-word}
@@ -40,18 +40,15 @@ abbrev laid : ℕ → List ℕ → Laying
 laid code bytes = record { code = code; bytes = bytes }
 
 -- the reply on bytes is that of the step, or that they are no area
-on-bytes : (P : Reply → Type 0) (l : List ℕ) (call : Call) → P NotWellFormed → (wellFormed controller l ≡ true → P (replyOf (step controller (stateOf controller l) call)))
+reply-case : (P : Reply → Type 0) (l : List ℕ) (call : Call) → P NotWellFormed → (wellFormed controller l ≡ true → P (replyOf (step controller (stateOf controller l) call)))
     → P (stepOnBytes controller l call .reply)
 unfolding stepOnBytes
-on-bytes P l call unformed formed = by (wellFormed controller l) refl
-  where
-    by : (b : Bool) → wellFormed controller l ≡ b
-        → P (cond b (answered controller l (step controller (stateOf controller l) call)) (record { reply = NotWellFormed; bytes = l }) .reply)
-    by true p = rw (answered-reply controller l (step controller (stateOf controller l) call)) (formed p)
-    by false p = unformed
+reply-case P l call unformed formed =
+    cond-elim (λ (x : Answered). P (x .reply)) (wellFormed controller l) _ _
+    (λ right. rw (answered-reply controller l (step controller (stateOf controller l) call)) (formed right)) (λ wrong. unformed)
 
 reply-word : (l : List ℕ) (call : Call) → replyWord (stepOnBytes controller l call .reply) < 2 ^ 32
-reply-word l call = on-bytes (λ r. replyWord r < 2 ^ 32) l call (lit< tt) (λ formed. formed-word controller l formed controller-fits call)
+reply-word l call = reply-case (λ r. replyWord r < 2 ^ 32) l call (lit< tt) (λ formed. formed-word controller l formed controller-fits call)
 
 splits : (l : List ℕ) (call : Call)
     → (replyNumber (stepOnBytes controller l call .reply) / 2 ^ 40 ≡ replyCode (stepOnBytes controller l call .reply))
@@ -79,21 +76,11 @@ module _ (l : List ℕ) (call : Call) (r : ℕ) (l′ : List ℕ) (s : Stepped l
   is-bare refuses who = let bare = refusal-bare reply (rw told-code at (refuses .0)) (rw told-code at who) in (told-kind ∙ bare .0, told-word ∙ bare .1)
 
   -- what the step on the state says of a holder, the number says
-  says : Bytes l → SaysHeld controller (stateOf controller l) call reply
-  says bytes =
-      on-bytes (SaysHeld controller (stateOf controller l) call) l call
-      (record { read = λ e. absurd (omega arith); lockOrReload = λ e. absurd (omega arith); lockNext = λ e n. absurd (omega arith); reloadFirst = λ e n. absurd (omega arith) })
-      (λ formed. tells-who controller controller-fits .tells (stateOf controller l) call (state-right controller l bytes formed))
-
-  read-held : Bytes l → r / 2 ^ 40 ≡ 14
-      → (call .step ≡ 2) × (r / 2 ^ 32 % 256 ≡ 2) × InTheWay controller (stateOf controller l) (call .slot) (call .cell) (r % 2 ^ 32)
-  read-held bytes code = let who = says bytes .read (sym told-code ∙ code) in (who .0, told-kind ∙ who .1, rw told-word (who .2))
-
-  cell-held : Bytes l → r / 2 ^ 40 ≡ 11
-      → ((call .step ≡ 5) ⊎ (call .step ≡ 10))
-      × (r / 2 ^ 32 % 256 ≡ 2)
-      × InTheWay controller (stateOf controller l) (call .slot) (r % 2 ^ 32 / 256) (r % 2 ^ 32 % 256)
-  cell-held bytes code = let who = says bytes .lockOrReload (sym told-code ∙ code) in (who .0, told-kind ∙ who .1, rw told-word (who .2))
+  says-held : Bytes l → SaysHeld controller (stateOf controller l) call (r / 2 ^ 40) (r / 2 ^ 32 % 256) (r % 2 ^ 32)
+  says-held bytes =
+      rw (told-code, told-kind, told-word)
+      (reply-case (Says controller (stateOf controller l) call) l call (silent (λ e. omega arith) (λ e. omega arith))
+      (λ formed. tells-who controller controller-fits .tells (stateOf controller l) call (state-right controller l bytes formed)))
 
 -- a lay-out that is refused writes nothing
 refused-lay-out : (fit legal : Bool) (x : List ℕ) (l : List ℕ)
@@ -113,8 +100,7 @@ demand1 =
       word = told-word;
       refusal = untouched;
       bare = is-bare;
-      readHeld = read-held;
-      cellHeld = cell-held;
+      saysHeld = says-held;
       layOutRefusal = λ l ds r l′ s h. s .bytes ∙ refused-lay-out (lengthsFit controller l ds) (all (λ (x : Cell). legalWord (x .kind) (x .word)) (describedCells ds))
           (pack controller (fresh controller (describedCells ds))) l (rw (s .answer) at h);
     }

@@ -31,9 +31,9 @@ use Rattle.rules.specs.Layout.{countIn, cellsIn, recordsIn, stateOf}
 use Rattle.rules.specs.AreaRight.{wellFormedButHolders, recordHolds, areaHoldersRight, wellFormed}
 use Rattle.rules.specs.Outcome.{Outcome, refused, accepted, replyOf}
 use Rattle.rules.specs.Step.{Call, step}
-use Rattle.rules.proofs.PackBytes.{holder-within}
+use Rattle.rules.proofs.Holders.{holder-within}
 use Rattle.history.proofs.Cases.{Bare}
-use Rattle.history.proofs.Move.{Move, began, read-written, read-again, read-first, wrote, closed, locked, entered, reread-done, updated, ask-done, reloading, ignored, nothing-to-ignore, aborted, committed, published, gave-up, barely, read-held, lock-held, reload-held, Lawful}
+use Rattle.history.proofs.Move.{Move, began, read-written, read-again, read-first, wrote, closed, locked, entered, reread-done, updated, ask-done, reloading, ignored, nothing-to-ignore, aborted, committed, published, gave-up, bare-refusal, read-held, lock-held, reload-held, Lawful}
 use Rattle.history.proofs.StepCase.{lawful-case}
 use Rattle.history.proofs.InTheWay.{held-inside, obstacle-held}
 
@@ -91,12 +91,12 @@ module _ (M : Model) (S : State) (holders : (c : ℕ) → cellAt S c .holder < 2
 
   lawful-word : (i : ℕ) (s : Step) (o : Outcome) → Lawful M S i s o → replyWord (replyOf o) < 2 ^ 32
   lawful-word i s (accepted r T) m = move-word m
-  lawful-word i s (refused r) (barely k) = bare-word r k
+  lawful-word i s (refused r) (bare-refusal k) = bare-word r k
   lawful-word i s (refused r) (read-held {c = c} held) = omega (arith, holders c)
-  lawful-word i s (refused r) (lock-held {c = c} x same held) = held-word i c held
+  lawful-word i s (refused r) (lock-held {c = c} x more same held) = held-word i c held
   lawful-word i s (refused r) (reload-held {e = e} x o) = held-word i (e .cell) (obstacle-held S i _ e o)
 
-  pub step-word : (a : Call) → replyWord (replyOf (step M S a)) < 2 ^ 32
+  step-word : (a : Call) → replyWord (replyOf (step M S a)) < 2 ^ 32
   step-word a = lawful-case M S (λ o. replyWord (replyOf o) < 2 ^ 32) bare-word a (λ s made h. lawful-word (pred (a .slot)) s)
 
 -- .. as they are in every area that is well formed: a cell's holder is a slot of the model or none, and there are as many cells as the model can have at most

@@ -1,7 +1,6 @@
 -- The three demands of the two functions, as statements about what their contracts allow. In quotation marks: the demands' own words.
 use mathlib.Core.Bool.{true}
 use mathlib.Core.List.{List, [], _∷_, map}
-use mathlib.Core.Logic.{_⊎_}
 use mathlib.Core.Path.{_≡_}
 use Prim.Native.Nat.{ℕ, _/_, _%_, _^_, _≤_}
 use Rattle.wire.specs.Field.{Bytes}
@@ -16,7 +15,7 @@ use Rattle.rules.specs.Area.{stepOnBytes, atRest}
 use Rattle.rules.specs.RoundTrip.{RoundTrip}
 use Rattle.history.specs.History.{Event, Demand3}
 use Rattle.history.specs.AreaHistory.{areaHistory}
-use Rattle.history.specs.InTheWay.{InTheWay}
+use Rattle.history.specs.InTheWay.{SaysHeld}
 use Rattle.fresh.specs.LaidOut.{LaidOut}
 use Rattle.crocktendril.specs.Contract.{Stepped}
 
@@ -34,14 +33,9 @@ pub record Demand1 : Type 0 where
   -- .. and each but 11 and 14, which say who is in the way, has kind and word zero.
   pub bare : (l : List ℕ) (call : Call) (r : ℕ) (l′ : List ℕ) → Stepped l call r l′ → Refuses (r / 2 ^ 40) → (SaysWho (r / 2 ^ 40) → ⊥)
       → (r / 2 ^ 32 % 256 ≡ 0) × (r % 2 ^ 32 ≡ 0)
-  -- What these two say, of an area of bytes: 14, of a read alone, has kind 2, and the word is the slot in the way, which holds the cell that was to be read ..
-  pub readHeld : (l : List ℕ) (call : Call) (r : ℕ) (l′ : List ℕ) → Stepped l call r l′ → Bytes l → r / 2 ^ 40 ≡ 14
-      → (call .step ≡ 2) × (r / 2 ^ 32 % 256 ≡ 2) × InTheWay controller (stateOf controller l) (call .slot) (call .cell) (r % 2 ^ 32)
-  -- .. and 11, of a lock or a reload, has kind 2, and the word is cell × 256 + holder: that slot holds that cell.
-  pub cellHeld : (l : List ℕ) (call : Call) (r : ℕ) (l′ : List ℕ) → Stepped l call r l′ → Bytes l → r / 2 ^ 40 ≡ 11
-      → ((call .step ≡ 5) ⊎ (call .step ≡ 10))
-      × (r / 2 ^ 32 % 256 ≡ 2)
-      × InTheWay controller (stateOf controller l) (call .slot) (r % 2 ^ 32 / 256) (r % 2 ^ 32 % 256)
+  -- What these two say of an area, which is made of bytes: kind 2, and a word that names a slot in the caller's way, and its cell, in the state that the area has.
+  pub saysHeld : (l : List ℕ) (call : Call) (r : ℕ) (l′ : List ℕ) → Stepped l call r l′ → Bytes l
+      → SaysHeld controller (stateOf controller l) call (r / 2 ^ 40) (r / 2 ^ 32 % 256) (r % 2 ^ 32)
   pub layOutRefusal : (l ds : List ℕ) (r : ℕ) (l′ : List ℕ) → LaidOut l ds r l′ → 1 ≤ r → l′ ≡ l
 
 -- Demand 2

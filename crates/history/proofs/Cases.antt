@@ -28,7 +28,7 @@ Refusal r = T (leb 2 (replyCode r)) × T (not (eqb (replyCode r) 13))
 abbrev pub Bare : Reply → Type 0
 Bare r = Refusal r × T (not (eqb (replyCode r) 11)) × T (not (eqb (replyCode r) 14))
 
--- the proof where the code is known
+-- the proof for any reply whose code computes: `NotAllowed` stands for them
 abbrev pub bare : Bare NotAllowed
 bare = ((tt, tt), tt, tt)
 

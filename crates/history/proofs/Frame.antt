@@ -50,7 +50,7 @@ module _ (M : Model) (S : State) (right : Right M S) (i c : ℕ) (out : writesCe
   not-held h =
       below-or-not ⊥ c (cellCount S)
       (λ there.
-      let few = right .holder-slot c there in
+      let few = right .holder-slot c in
       let mine : cellAt S c .holder ≡ suc i = eqb-true _ _ h in
       false≢true (sym (holds-logged (slotAt S i) c out) ∙ sym (right .held c i there (omega arith)) ∙ h))
       (λ beyond.

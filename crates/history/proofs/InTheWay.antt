@@ -13,7 +13,7 @@ use Rattle.call.specs.declared.Step.{Step}
 use Rattle.call.specs.declared.Step.the-variants.{Read, Lock, Reload}
 use Rattle.call.specs.declared.Decoded.the-variants.{Made}
 use Rattle.call.specs.declared.Reply.{Reply}
-use Rattle.call.specs.Answer.{heldWord, replyCode}
+use Rattle.call.specs.Answer.{heldWord, replyCode, replyKind, replyWord}
 use Rattle.call.specs.Decode.{decoded}
 use Rattle.call.proofs.Number.{number-back}
 use Rattle.slot.specs.declared.ReadEntry.{ReadEntry}
@@ -28,8 +28,9 @@ use Rattle.rules.specs.StateRight.{holds}
 use Rattle.rules.specs.Outcome.{Outcome, refused, accepted, replyOf}
 use Rattle.rules.specs.Step.{Call, step}
 use Rattle.history.specs.InTheWay.{InTheWay, SaysHeld, TellsWho}
+use Rattle.history.proofs.Cases.{Bare}
 use Rattle.history.proofs.Right.{Right, right-of}
-use Rattle.history.proofs.Move.{Declined, barely, read-held, lock-held, reload-held, Lawful}
+use Rattle.history.proofs.Move.{Declined, bare-refusal, read-held, lock-held, reload-held, Lawful}
 use Rattle.history.proofs.StepCase.{lawful-case}
 use Rattle.history.proofs.Record.{read-names}
 use Rattle.history.proofs.Keeps.Lists.{first-place}
@@ -37,11 +38,11 @@ use Rattle.history.proofs.Keeps.Codes.{Coded, acceptance, step-coded}
 
 -- a cell that another slot holds has a holder, which is not the slot itself, and is there
 module _ (S : State) (i c : ℕ) (held : heldByOther i (cellAt S c) ≡ true) where
-  pub some-holder : cellAt S c .holder ≡ 0 → ⊥
+  some-holder : cellAt S c .holder ≡ 0 → ⊥
   unfolding heldByOther
   some-holder = eqb-false _ _ (not-true _ (and-left _ _ held))
 
-  pub other-holder : cellAt S c .holder ≡ suc i → ⊥
+  other-holder : cellAt S c .holder ≡ suc i → ⊥
   unfolding heldByOther
   other-holder = eqb-false _ _ (not-true _ (and-right (not (eqb (cellAt S c .holder) 0)) _ held))
 
@@ -63,7 +64,7 @@ module _ (S : State) (i c : ℕ) (held : heldByOther i (cellAt S c) ≡ true) wh
 
     pub in-the-way : (slot : ℕ) → pred slot ≡ i → InTheWay M S slot c (cellAt S c .holder)
     in-the-way slot own =
-        let most = right .holder-slot c held-inside in
+        let most = right .holder-slot c in
         record {
           fromOne = omega (arith, some-holder);
           toLast = most;
@@ -77,6 +78,23 @@ module _ (S : State) (i c : ℕ) (held : heldByOther i (cellAt S c) ≡ true) wh
 pub obstacle-held : (S : State) (i : ℕ) (reads : List ReadEntry) (y : ReadEntry) → obstacle S i reads ≡ some y → heldByOther i (cellAt S (y .cell)) ≡ true
 unfolding obstacle
 obstacle-held S i reads y o = found-passes (λ (e : ReadEntry). heldByOther i (cellAt S (e .cell))) reads y o
+
+-- a code that is neither of the two says nothing of a holder
+pub silent : {M : Model} {S : State} {a : Call} {code kind word : ℕ} → (code ≡ 11 → ⊥) → (code ≡ 14 → ⊥) → SaysHeld M S a code kind word
+silent not-11 not-14 =
+    record {
+      readHeld = λ e. absurd (not-14 e);
+      cellHeld = λ e. absurd (not-11 e);
+      lockNext = λ e s. absurd (not-11 e);
+      reloadFirst = λ e s. absurd (not-11 e);
+    }
+
+-- what a reply says
+abbrev pub Says : Model → State → Call → Reply → Type 0
+Says M S a r = SaysHeld M S a (replyCode r) (replyKind r) (replyWord r)
+
+bare-silent : {M : Model} {S : State} {a : Call} (r : Reply) → Bare r → Says M S a r
+bare-silent r k = silent (λ e. rw e at (k .1)) (λ e. rw e at (k .2))
 
 module _ (M : Model) (fits : FitsBytes M) (S : State) (right : Right M S) (a : Call) where
   abbrev i : ℕ
@@ -93,65 +111,50 @@ module _ (M : Model) (fits : FitsBytes M) (S : State) (right : Right M S) (a : C
       let there = first-place (λ (e : ReadEntry). heldByOther i (cellAt S (e .cell))) reads noRead y o in
       (there .0, there .1, ap (λ (e : ReadEntry). e .cell) (there .2) ∙ sym same, there .3)
 
-  silent : (r : Reply) → (replyCode r ≡ 11 → ⊥) → (replyCode r ≡ 14 → ⊥) → SaysHeld M S a r
-  silent r not-11 not-14 =
-      record {
-        read = λ e. absurd (not-14 e);
-        lockOrReload = λ e. absurd (not-11 e);
-        lockNext = λ e s. absurd (not-11 e);
-        reloadFirst = λ e s. absurd (not-11 e);
-      }
-
   -- a word that is put together comes apart again
-  apart : (c h : ℕ) → h ≤ M .slots → (heldWord c h / 256 ≡ c) × (heldWord c h % 256 ≡ h)
-  apart c h most = let wide = fits .slots-fit in (omega arith, omega arith)
+  apart : (c : ℕ) → let holder = cellAt S c .holder in (heldWord c holder / 256 ≡ c) × (heldWord c holder % 256 ≡ holder)
+  apart c = let few = right .holder-slot c in let wide = fits .slots-fit in (omega arith, omega arith)
 
   at-cell : (c : ℕ) → heldByOther i (cellAt S c) ≡ true
       → let word = heldWord c (cellAt S c .holder) in InTheWay M S (a .slot) (word / 256) (word % 256)
-  at-cell c held =
-      let back = apart c (cellAt S c .holder) (right .holder-slot c (held-inside S i c held)) in
-      rw (back .0, back .1) (in-the-way S i c held M right (a .slot) refl)
+  at-cell c held = rw (apart c .0, apart c .1) (in-the-way S i c held M right (a .slot) refl)
 
-  cell-back : (c : ℕ) → heldByOther i (cellAt S c) ≡ true → heldWord c (cellAt S c .holder) / 256 ≡ c
-  cell-back c held = apart c (cellAt S c .holder) (right .holder-slot c (held-inside S i c held)) .0
-
-  said : (s : Step) (r : Reply) → decoded (a .step) (a .cell) (a .kind) (a .word) ≡ Made s → Declined S i s r → SaysHeld M S a r
-  said s r made (barely k) = silent r (λ e. rw e at (k .1)) (λ e. rw e at (k .2))
+  said : (s : Step) (r : Reply) → decoded (a .step) (a .cell) (a .kind) (a .word) ≡ Made s → Declined S i s r → Says M S a r
+  said s r made (bare-refusal k) = bare-silent r k
   said s r made (read-held {c = c} held) =
       let number : a .step ≡ 2 = number-back (a .step) (a .cell) (a .kind) (a .word) (Read c) made in
       let named : a .cell ≡ c = read-names (a .step) (a .cell) (a .kind) (a .word) c number made in
       record {
-        read = λ e. (number, refl, rw named (in-the-way S i c held M right (a .slot) refl));
-        lockOrReload = λ e. absurd (omega arith);
+        readHeld = λ e. (number, refl, rw named (in-the-way S i c held M right (a .slot) refl));
+        cellHeld = λ e. absurd (omega arith);
         lockNext = λ e s. absurd (omega arith);
         reloadFirst = λ e s. absurd (omega arith);
       }
-  said s r made (lock-held {c = c} x same held) =
+  said s r made (lock-held {c = c} x more same held) =
       let number : a .step ≡ 5 = number-back (a .step) (a .cell) (a .kind) (a .word) Lock made in
       record {
-        read = λ e. absurd (omega arith);
-        lockOrReload = λ e. (inl number, refl, at-cell c held);
-        lockNext = λ e s. rw x (cell-back c held ∙ same);
+        readHeld = λ e. absurd (omega arith);
+        cellHeld = λ e. (inl number, refl, at-cell c held);
+        lockNext = λ e s. rw x (more, sym same ∙ sym (apart c .0));
         reloadFirst = λ e s. absurd (omega arith);
       }
   said s r made (reload-held {e = y} {reads = reads} x o) =
       let number : a .step ≡ 10 = number-back (a .step) (a .cell) (a .kind) (a .word) Reload made in
       let held : heldByOther i (cellAt S (y .cell)) ≡ true = obstacle-held S i reads y o in
       record {
-        read = λ e. absurd (omega arith);
-        lockOrReload = λ e. (inr number, refl, at-cell (y .cell) held);
+        readHeld = λ e. absurd (omega arith);
+        cellHeld = λ e. (inr number, refl, at-cell (y .cell) held);
         lockNext = λ e s. absurd (omega arith);
-        reloadFirst = λ e s. rw x (obstacle-first reads y o (cell-back (y .cell) held));
+        reloadFirst = λ e s. rw x (obstacle-first reads y o (apart (y .cell) .0));
       }
 
-  goes : (s : Step) → decoded (a .step) (a .cell) (a .kind) (a .word) ≡ Made s → (o : Outcome) → Lawful M S i s o → Coded o → SaysHeld M S a (replyOf o)
+  goes : (s : Step) → decoded (a .step) (a .cell) (a .kind) (a .word) ≡ Made s → (o : Outcome) → Lawful M S i s o → Coded o → Says M S a (replyOf o)
   goes s made (refused r) k coded = said s r made k
-  goes s made (accepted r T) m coded = silent r (λ e. acceptance r coded (λ z. omega arith, λ z. omega arith)) (λ e. acceptance r coded (λ z. omega arith, λ z. omega arith))
+  goes s made (accepted r T) m coded =
+      silent (λ e. acceptance r coded (λ z. omega arith, λ z. omega arith)) (λ e. acceptance r coded (λ z. omega arith, λ z. omega arith))
 
-  pub says-held : SaysHeld M S a (replyOf (step M S a))
-  says-held =
-      lawful-case M S (λ o. Coded o → SaysHeld M S a (replyOf o)) (λ r k coded. silent r (λ e. rw e at (k .1)) (λ e. rw e at (k .2))) a
-      (λ s made h. goes s made) (step-coded M S a)
+  says-held : Says M S a (replyOf (step M S a))
+  says-held = lawful-case M S (λ o. Coded o → Says M S a (replyOf o)) (λ r k coded. bare-silent r k) a (λ s made h. goes s made) (step-coded M S a)
 
 pub tells-who : (M : Model) → FitsBytes M → TellsWho M
 tells-who M fits = record { tells = λ S a right. says-held M fits S (right-of M S right) a }

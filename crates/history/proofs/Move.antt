@@ -87,88 +87,90 @@ pub data Move (M : Model) (S : State) (i : ℕ) : Step → Reply → State → T
       (turn S i (S .clock) (set (S .cells) (e .cell) (publishedAs (e .word) commit (cellAt S (e .cell)))) (publishingOrIdle ignoring (suc count) start commit reads writes))
   gave-up : Uncommitted (slotAt S i) → Move M S i GiveUp Done (turn S i (S .clock) (freeAll i (S .cells)) idle)
 
+-- why a step is refused: bare, or another slot holds a cell, with what the tests have shown
 pub data Declined (S : State) (i : ℕ) : Step → Reply → Type 0 where
-  barely : {s : Step} {r : Reply} → Bare r → Declined S i s r
+  bare-refusal : {s : Step} {r : Reply} → Bare r → Declined S i s r
   read-held : {c : ℕ} → heldByOther i (cellAt S c) ≡ true → Declined S i (Read c) (ReadHeld (cellAt S c .holder))
   lock-held : {count start c : ℕ} {reads : List ReadEntry} {writes : List WriteEntry}
-      → slotAt S i ≡ locking count start reads writes → c ≡ getD writes count noWrite .cell → heldByOther i (cellAt S c) ≡ true
+      → slotAt S i ≡ locking count start reads writes → count < length writes → c ≡ getD writes count noWrite .cell → heldByOther i (cellAt S c) ≡ true
       → Declined S i Lock (LockHeld c (cellAt S c .holder))
   reload-held : {ignoring : Bool} {start commit : ℕ} {e : ReadEntry} {reads : List ReadEntry} {writes : List WriteEntry}
       → slotAt S i ≡ twilight ignoring start commit reads writes → obstacle S i reads ≡ some e
       → Declined S i Reload (ReloadHeld (e .cell) (cellAt S (e .cell) .holder))
 
+-- a refusal has its cause, and an accepted step is a move
 abbrev pub Lawful : (M : Model) (S : State) (i : ℕ) → Step → Outcome → Type 0
 Lawful M S i s (refused r) = Declined S i s r
 Lawful M S i s (accepted r T) = Move M S i s r T
 
 module _ (M : Model) (S : State) (i : ℕ) where
   inside-case : (s : Step) (c : ℕ) (o : Outcome) → (c < cellCount S → Lawful M S i s o) → Lawful M S i s (insideCells S c o)
-  inside-case s c o f = refuse-case (Lawful M S i s) (λ r k. barely k) (leb (cellCount S) c) NoSuchCell bare o (λ e. f (leb-false (cellCount S) c e))
+  inside-case s c o f = refuse-case (Lawful M S i s) (λ r k. bare-refusal k) (leb (cellCount S) c) NoSuchCell bare o (λ e. f (leb-false (cellCount S) c e))
 
   fitting-case : (s : Step) (c : ℕ) (v : CellValue) (o : Outcome) → c < cellCount S → (Fitting S c v → Lawful M S i s o) → Lawful M S i s (fittingValue S c v o)
   fitting-case s c v o inside f =
-      refuse-case (Lawful M S i s) (λ r k. barely k) (not (legalWord (kindOf v) (wordOf v))) IllegalValue bare _
+      refuse-case (Lawful M S i s) (λ r k. bare-refusal k) (not (legalWord (kindOf v) (wordOf v))) IllegalValue bare _
       (λ legal.
-      refuse-case (Lawful M S i s) (λ r k. barely k) (not (eqb (kindOf v) (cellAt S c .kind))) OtherKind bare o
+      refuse-case (Lawful M S i s) (λ r k. bare-refusal k) (not (eqb (kindOf v) (cellAt S c .kind))) OtherKind bare o
       (λ kind. f (record { inside = inside; legal = not-false _ legal; kind = eqb-true _ _ (not-false _ kind) })))
 
   stamp-case : (s : Step) (o : Outcome) → ((S .clock ≡ lastStamp M → ⊥) → Lawful M S i s o) → Lawful M S i s (belowLastStamp M S o)
-  stamp-case s o f = refuse-case (Lawful M S i s) (λ r k. barely k) (eqb (S .clock) (lastStamp M)) LastStamp bare o (λ e. f (eqb-false _ _ e))
+  stamp-case s o f = refuse-case (Lawful M S i s) (λ r k. bare-refusal k) (eqb (S .clock) (lastStamp M)) LastStamp bare o (λ e. f (eqb-false _ _ e))
 
   pub lawful : (s : Step) → Lawful M S i s (row M S i s)
   unfolding begin read readShared write close lock enter reread update ask reload ignore finish publish giveUp
-  lawful Begin = idle-case (Lawful M S i Begin) (λ r k. barely k) (slotAt S i) _ began
+  lawful Begin = idle-case (Lawful M S i Begin) (λ r k. bare-refusal k) (slotAt S i) _ began
   lawful (Read c) =
-      open-case (Lawful M S i (Read c)) (λ r k. barely k) (slotAt S i) _ λ start reads writes x.
+      open-case (Lawful M S i (Read c)) (λ r k. bare-refusal k) (slotAt S i) _ λ start reads writes x.
       inside-case (Read c) c _ λ inside.
-      found-case (Lawful M S i (Read c)) (λ r k. barely k) (writeEntry writes c) _ _ (λ e w. read-written x inside w) λ w.
-      found-case (Lawful M S i (Read c)) (λ r k. barely k) (readEntry reads c) _ _ (λ e r. read-again x inside w r) λ r.
-      refuse-case (Lawful M S i (Read c)) (λ r k. barely k) (leb readCapacity (length reads)) LogFull bare _ λ room.
-      cond-case (Lawful M S i (Read c)) (λ r k. barely k) (heldByOther i (cellAt S c)) _ _ (λ taken. read-held taken) λ held.
-      refuse-case (Lawful M S i (Read c)) (λ r k. barely k) (newer start (cellAt S c)) ReadNewer bare _ λ new.
+      found-case (Lawful M S i (Read c)) (λ r k. bare-refusal k) (writeEntry writes c) _ _ (λ e w. read-written x inside w) λ w.
+      found-case (Lawful M S i (Read c)) (λ r k. bare-refusal k) (readEntry reads c) _ _ (λ e r. read-again x inside w r) λ r.
+      refuse-case (Lawful M S i (Read c)) (λ r k. bare-refusal k) (leb readCapacity (length reads)) LogFull bare _ λ room.
+      cond-case (Lawful M S i (Read c)) (λ r k. bare-refusal k) (heldByOther i (cellAt S c)) _ _ (λ taken. read-held taken) λ held.
+      refuse-case (Lawful M S i (Read c)) (λ r k. bare-refusal k) (newer start (cellAt S c)) ReadNewer bare _ λ new.
       read-first x inside w r (leb-false _ _ room) held new
   lawful (Write c v) =
-      open-case (Lawful M S i (Write c v)) (λ r k. barely k) (slotAt S i) _ λ start reads writes x.
+      open-case (Lawful M S i (Write c v)) (λ r k. bare-refusal k) (slotAt S i) _ λ start reads writes x.
       inside-case (Write c v) c _ λ inside.
       fitting-case (Write c v) c v _ inside λ fit.
-      refuse-case (Lawful M S i (Write c v)) (λ r k. barely k) (not (writesCell writes c) and leb writeCapacity (length writes)) LogFull bare _ λ room.
+      refuse-case (Lawful M S i (Write c v)) (λ r k. bare-refusal k) (not (writesCell writes c) and leb writeCapacity (length writes)) LogFull bare _ λ room.
       wrote x fit room
-  lawful Close = open-case (Lawful M S i Close) (λ r k. barely k) (slotAt S i) _ λ start reads writes x. closed x
+  lawful Close = open-case (Lawful M S i Close) (λ r k. bare-refusal k) (slotAt S i) _ λ start reads writes x. closed x
   lawful Lock =
-      locking-case (Lawful M S i Lock) (λ r k. barely k) (slotAt S i) _ λ count start reads writes x.
-      refuse-case (Lawful M S i Lock) (λ r k. barely k) (leb (length writes) count) NotAllowed bare _ λ missing.
-      cond-case (Lawful M S i Lock) (λ r k. barely k) (heldByOther i (cellAt S (getD writes count noWrite .cell))) _ _ (λ taken. lock-held x refl taken) λ free.
+      locking-case (Lawful M S i Lock) (λ r k. bare-refusal k) (slotAt S i) _ λ count start reads writes x.
+      refuse-case (Lawful M S i Lock) (λ r k. bare-refusal k) (leb (length writes) count) NotAllowed bare _ λ missing.
+      cond-case (Lawful M S i Lock) (λ r k. bare-refusal k) (heldByOther i (cellAt S (getD writes count noWrite .cell))) _ _ (λ taken. lock-held x (leb-false _ _ missing) refl taken) λ free.
       locked x (leb-false _ _ missing) refl free
   lawful Enter =
-      locking-case (Lawful M S i Enter) (λ r k. barely k) (slotAt S i) _ λ count start reads writes x.
-      refuse-case (Lawful M S i Enter) (λ r k. barely k) (ltb count (length writes)) NotAllowed bare _ λ whole.
+      locking-case (Lawful M S i Enter) (λ r k. bare-refusal k) (slotAt S i) _ λ count start reads writes x.
+      refuse-case (Lawful M S i Enter) (λ r k. bare-refusal k) (ltb count (length writes)) NotAllowed bare _ λ whole.
       stamp-case Enter _ λ below.
       entered x (ltb-false _ _ whole) below
   lawful (Reread c) =
-      twilight-case (Lawful M S i (Reread c)) (λ r k. barely k) (slotAt S i) _ λ ignoring start commit reads writes x.
+      twilight-case (Lawful M S i (Reread c)) (λ r k. bare-refusal k) (slotAt S i) _ λ ignoring start commit reads writes x.
       inside-case (Reread c) c _ λ inside.
-      log-case (Lawful M S i (Reread c)) (λ r k. barely k) (readEntry reads c) _ λ e r. reread-done e
+      log-case (Lawful M S i (Reread c)) (λ r k. bare-refusal k) (readEntry reads c) _ λ e r. reread-done e
   lawful (Update c v) =
-      twilight-case (Lawful M S i (Update c v)) (λ r k. barely k) (slotAt S i) _ λ ignoring start commit reads writes x.
+      twilight-case (Lawful M S i (Update c v)) (λ r k. bare-refusal k) (slotAt S i) _ λ ignoring start commit reads writes x.
       inside-case (Update c v) c _ λ inside.
       fitting-case (Update c v) c v _ inside λ fit.
-      log-case (Lawful M S i (Update c v)) (λ r k. barely k) (writeEntry writes c) _ λ e w.
+      log-case (Lawful M S i (Update c v)) (λ r k. bare-refusal k) (writeEntry writes c) _ λ e w.
       updated x fit w
   lawful (Ask c) =
-      twilight-case (Lawful M S i (Ask c)) (λ r k. barely k) (slotAt S i) _ λ ignoring start commit reads writes x.
+      twilight-case (Lawful M S i (Ask c)) (λ r k. bare-refusal k) (slotAt S i) _ λ ignoring start commit reads writes x.
       inside-case (Ask c) c _ λ inside.
-      log-case (Lawful M S i (Ask c)) (λ r k. barely k) (readEntry reads c) _ λ e r. ask-done e
+      log-case (Lawful M S i (Ask c)) (λ r k. bare-refusal k) (readEntry reads c) _ λ e r. ask-done e
   lawful Reload =
-      twilight-case (Lawful M S i Reload) (λ r k. barely k) (slotAt S i) _ λ ignoring start commit reads writes x.
-      found-case (Lawful M S i Reload) (λ r k. barely k) (obstacle S i reads) _ _ (λ e o. reload-held x o) λ clear.
+      twilight-case (Lawful M S i Reload) (λ r k. bare-refusal k) (slotAt S i) _ λ ignoring start commit reads writes x.
+      found-case (Lawful M S i Reload) (λ r k. bare-refusal k) (obstacle S i reads) _ _ (λ e o. reload-held x o) λ clear.
       stamp-case Reload _ λ below.
       reloading x clear below
   lawful Ignore =
-      twilight-case (Lawful M S i Ignore) (λ r k. barely k) (slotAt S i) _ λ ignoring start commit reads writes x.
-      cond-case (Lawful M S i Ignore) (λ r k. barely k) (someMarked reads) _ _ (λ m. ignored x m) (λ m. nothing-to-ignore)
+      twilight-case (Lawful M S i Ignore) (λ r k. bare-refusal k) (slotAt S i) _ λ ignoring start commit reads writes x.
+      cond-case (Lawful M S i Ignore) (λ r k. bare-refusal k) (someMarked reads) _ _ (λ m. ignored x m) (λ m. nothing-to-ignore)
   lawful Finish =
-      twilight-case (Lawful M S i Finish) (λ r k. barely k) (slotAt S i) _ λ ignoring start commit reads writes x.
-      cond-case (Lawful M S i Finish) (λ r k. barely k) (someMarked reads and not ignoring) _ _ (λ m. aborted x m) (λ m. committed x m)
+      twilight-case (Lawful M S i Finish) (λ r k. bare-refusal k) (slotAt S i) _ λ ignoring start commit reads writes x.
+      cond-case (Lawful M S i Finish) (λ r k. bare-refusal k) (someMarked reads and not ignoring) _ _ (λ m. aborted x m) (λ m. committed x m)
   lawful Publish =
-      publishing-case (Lawful M S i Publish) (λ r k. barely k) (slotAt S i) _ λ ignoring count start commit reads writes x. published x refl
-  lawful GiveUp = uncommitted-case (Lawful M S i GiveUp) (λ r k. barely k) (slotAt S i) _ gave-up
+      publishing-case (Lawful M S i Publish) (λ r k. bare-refusal k) (slotAt S i) _ λ ignoring count start commit reads writes x. published x refl
+  lawful GiveUp = uncommitted-case (Lawful M S i GiveUp) (λ r k. bare-refusal k) (slotAt S i) _ gave-up

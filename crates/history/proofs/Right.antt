@@ -14,14 +14,14 @@ use Rattle.rules.specs.State.{State, Slot, idle, cellCount, cellAt, slotAt, com
 use Rattle.rules.specs.LogsRight.{cellRight, cellCountRight, stampsApart, holdersRight}
 use Rattle.rules.specs.StateRight.{slotRight, holds, shapeRight, stateRightButHolders, stateHoldersRight, stateRight}
 use Rattle.slot.proofs.Logic.{and-left, and-right, or-right, every-at, all-at}
-use Rattle.rules.proofs.PackBytes.{holder-within}
+use Rattle.rules.proofs.Holders.{holder-within}
 
 pub record Right (M : Model) (S : State) : Type 0 where
   pub clock-last : S .clock ≤ lastStamp M
   pub slot-count : length (S .slots) ≡ M .slots
   pub cell-count : cellCountRight M (cellCount S) ≡ true
   pub cell : (c : ℕ) → c < cellCount S → cellRight (S .clock) (cellAt S c) ≡ true
-  pub holder-slot : (c : ℕ) → c < cellCount S → cellAt S c .holder ≤ M .slots
+  pub holder-slot : (c : ℕ) → cellAt S c .holder ≤ M .slots
   pub slot : (s : ℕ) → slotRight (S .cells) (S .clock) (slotAt S s) ≡ true
   -- no two slots have the same commit stamp
   pub apart : (s t : ℕ) → (s ≡ t → ⊥) → commitOf (slotAt S s) ≡ commitOf (slotAt S t) → commitOf (slotAt S s) ≡ 0
@@ -103,7 +103,7 @@ module _ (M : Model) (S : State) (right : stateRight M S ≡ true) where
         slot-count = count-of;
         cell-count = and-left _ _ (and-right _ _ but-holders);
         cell = all-at (cellRight (S .clock)) (S .cells) noCell (and-left _ _ (and-right _ _ (and-right _ _ but-holders)));
-        holder-slot = λ c h. rw (← count-of) (holder-within (S .cells) (length (S .slots)) (λ s d. holds (slotAt S s) d) (and-right _ _ right) c);
+        holder-slot = λ c. rw (← count-of) (holder-within (S .cells) (length (S .slots)) (λ s d. holds (slotAt S s) d) (and-right _ _ right) c);
         slot = slots-of;
         apart = λ s t d e. by-order s t d e (ltb s t) refl;
         held = held-of;

@@ -4,7 +4,6 @@ use mathlib.Core.Logic.{_⊎_}
 use mathlib.Core.Path.{_≡_}
 use Prim.Native.Nat.{ℕ, pred, _/_, _%_, _<_, _≤_}
 use lib.ListN.{length, getD}
-use Rattle.call.specs.declared.Reply.{Reply}
 use Rattle.call.specs.Answer.{replyCode, replyKind, replyWord}
 use Rattle.slot.specs.Layout.{noRead, noWrite}
 use Rattle.rules.specs.Model.{Model}
@@ -24,25 +23,26 @@ pub record InTheWay (M : Model) (S : State) (caller c holder : ℕ) : Type 0 whe
   pub named : cellAt S c .holder ≡ holder
   pub holding : holds (slotAt S (pred holder)) c ≡ true
 
--- What a reply says to a call that another slot's hold has refused.
-pub record SaysHeld (M : Model) (S : State) (a : Call) (r : Reply) : Type 0 where
+-- What code, kind and word say to a call that another slot's hold has refused.
+pub record SaysHeld (M : Model) (S : State) (a : Call) (code kind word : ℕ) : Type 0 where
   -- 14, of a read alone: kind 2, and the word is the holder of the cell that was to be read.
-  pub read : replyCode r ≡ 14 → (a .step ≡ 2) × (replyKind r ≡ 2) × InTheWay M S (a .slot) (a .cell) (replyWord r)
+  pub readHeld : code ≡ 14 → (a .step ≡ 2) × (kind ≡ 2) × InTheWay M S (a .slot) (a .cell) word
   -- 11, of a lock or a reload: kind 2, and the word is cell × 256 + holder.
-  pub lockOrReload : replyCode r ≡ 11
-      → ((a .step ≡ 5) ⊎ (a .step ≡ 10)) × (replyKind r ≡ 2) × InTheWay M S (a .slot) (replyWord r / 256) (replyWord r % 256)
+  pub cellHeld : code ≡ 11 → ((a .step ≡ 5) ⊎ (a .step ≡ 10)) × (kind ≡ 2) × InTheWay M S (a .slot) (word / 256) (word % 256)
   -- The cell of a lock is the lowest of the write log not yet taken ..
-  pub lockNext : replyCode r ≡ 11 → a .step ≡ 5
+  pub lockNext : code ≡ 11 → a .step ≡ 5
       → let own = slotAt S (pred (a .slot)) in
-      replyWord r / 256 ≡ getD (writesOf own) (takenOf own) noWrite .cell
+      (takenOf own < length (writesOf own)) × (getD (writesOf own) (takenOf own) noWrite .cell ≡ word / 256)
   -- .. and that of a reload "the first such cell in read-log order".
-  pub reloadFirst : replyCode r ≡ 11 → a .step ≡ 10
+  pub reloadFirst : code ≡ 11 → a .step ≡ 10
       → let reads = readsOf (slotAt S (pred (a .slot))) in
       (place : ℕ)
       × (place < length reads)
-      × (getD reads place noRead .cell ≡ replyWord r / 256)
+      × (getD reads place noRead .cell ≡ word / 256)
       × ((earlier : ℕ) → earlier < place → heldByOther (pred (a .slot)) (cellAt S (getD reads earlier noRead .cell)) ≡ false)
 
 -- .. from any well-formed state, and to a call of any five numbers
 pub record TellsWho (M : Model) : Type 0 where
-  pub tells : (S : State) (a : Call) → stateRight M S ≡ true → SaysHeld M S a (replyOf (step M S a))
+  pub tells : (S : State) (a : Call) → stateRight M S ≡ true
+      → let r = replyOf (step M S a) in
+      SaysHeld M S a (replyCode r) (replyKind r) (replyWord r)

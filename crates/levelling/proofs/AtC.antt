@@ -120,7 +120,7 @@ held-begun M S set slot =
 
 -- what the number says with code 14
 abbrev Held : List ℕ → List ℕ → ℕ → ℕ → Type 0
-Held l set slot r = (r / 2 ^ 32 % 2 ^ 8 ≡ 2) × InTheWay controller (stateOf controller l) slot (getD set (r / 2 ^ 48) 0) (r % 2 ^ 32)
+Held l set slot r = (r / 2 ^ 32 % 2 ^ 8 ≡ 2) × (r / 2 ^ 48 < length set) × InTheWay controller (stateOf controller l) slot (getD set (r / 2 ^ 48) 0) (r % 2 ^ 32)
 
 -- of a well-formed area: what the number and the bytes are
 module _ (l set : List ℕ) (slot r : ℕ) (l′ : List ℕ) (bytes : Bytes l) (p : wellFormed controller l ≡ true) (worn : Worn l set slot r l′) where
@@ -146,8 +146,9 @@ module _ (l set : List ℕ) (slot r : ℕ) (l′ : List ℕ) (bytes : Bytes l) (
   wear-held e =
       let code : w .code ≡ 14 = sym (wear-parts .1) ∙ e in
       let begun = held-begun controller (stateOf controller l) set slot code in
-      let left = leaves controller .operation (stateOf controller l) set slot (state-right controller l bytes p) begun .readHeld code in
-      rw (wear-parts .0, wear-parts .2, wear-parts .3) left
+      let left = leaves controller .operation (stateOf controller l) set slot (state-right controller l bytes p) begun in
+      let who = left .readHeld code in
+      rw (wear-parts .0, wear-parts .2, wear-parts .3) (who .0, left .conflicts (inl code) .0, who .1)
 
   -- an early code packs the state that was unpacked
   untouched-good : Early (r / 2 ^ 40 % 2 ^ 8) → l′ ≡ l

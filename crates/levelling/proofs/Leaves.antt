@@ -31,7 +31,7 @@ use Rattle.wearset.specs.WearSet.{groupCount}
 use Rattle.level.specs.Level.{Reading, going, stopped, readAt, readFirst, Levelled, writing, judging, levelling}
 use Rattle.wear.specs.Wear.{wear}
 use Rattle.levelling.specs.AsCalls.{admitted}
-use Rattle.levelling.specs.Leaves.{Left, wordsOf, withLogs, held, tooNew, unreadable, raised, Written, Leaves}
+use Rattle.levelling.specs.Leaves.{Left, wordsOf, withLogs, held, isNewer, unreadable, raisedEntry, PickWritten, Leaves}
 use Rattle.levelling.proofs.Cases.{begins}
 use Rattle.levelling.proofs.ReadLaws.{Begun, is-begun, count-write, slot-with, logs-anew, no-logs, map-next, read-next}
 
@@ -39,7 +39,7 @@ use Rattle.levelling.proofs.ReadLaws.{Begun, is-begun, count-write, slo
 abbrev pub Conflict : State → ℕ → ℕ → Reply → Type 0
 Conflict S slot c reply =
     ((held S slot c ≡ true) × (reply ≡ ReadHeld (cellAt S c .holder)))
-    ⊎ ((held S slot c ≡ false) × (tooNew S slot c ≡ true) × (reply ≡ ReadNewer))
+    ⊎ ((held S slot c ≡ false) × (isNewer S slot c ≡ true) × (reply ≡ ReadNewer))
 
 -- no code that comes once all cells are read is one of the core's
 no-core : (code : ℕ) → (code ≡ 0) ⊎ (code ≡ 33) ⊎ (code ≡ 34) → (code ≡ 14) ⊎ (code ≡ 10) → ⊥
@@ -103,7 +103,7 @@ module _ (M : Model) (S : State) (set : List ℕ) (slot : ℕ) (b : Begun M S se
 
   -- the picked group's write is accepted: its cell is of kind 2, and its count plus one has 32 bits
   write-accepted : (g : ℕ) → picked (wordsOf S set) (groupCount set) ≡ some g
-      → writing M (withLogs S slot set []) slot set (wordsOf S set) (some g) .state ≡ withLogs S slot set (raised S set g ∷ [])
+      → writing M (withLogs S slot set []) slot set (wordsOf S set) (some g) .state ≡ withLogs S slot set (raisedEntry S set g ∷ [])
   unfolding legalWord
   write-accepted g p =
       let least = picks-right .pick (wordsOf S set) (groupCount set) g p in
@@ -114,10 +114,10 @@ module _ (M : Model) (S : State) (set : List ℕ) (slot : ℕ) (b : Begun M S se
       ap (after (withLogs S slot set []))
       (count-write M (withLogs S slot set []) slot (getD set (erasesPlace g) 0) count _ _ (b .slot-inside) (slot-with M S set slot b set [])
       (b .cell-inside (erasesPlace g) inside) kind legal)
-      ∙ logs-anew M S set slot b set set (raised S set g ∷ [])
+      ∙ logs-anew M S set slot b set set (raisedEntry S set g ∷ [])
 
   -- once all cells are read
-  past-reads : (w : Levelled) → (w .code ≡ 0) ⊎ (w .code ≡ 33) ⊎ (w .code ≡ 34) → (33 ≤ w .code → w .state ≡ withLogs S slot set []) → (w .code ≡ 0 → Written S set slot w)
+  past-reads : (w : Levelled) → (w .code ≡ 0) ⊎ (w .code ≡ 33) ⊎ (w .code ≡ 34) → (33 ≤ w .code → w .state ≡ withLogs S slot set []) → (w .code ≡ 0 → PickWritten S set slot w)
       → Left M S set slot w
   past-reads w code unwritten written =
       record {

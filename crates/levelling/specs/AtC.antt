@@ -3,8 +3,8 @@ use mathlib.Core.Bool.{true}
 use mathlib.Core.List.{List, [], _∷_, _++_}
 use mathlib.Core.Logic.{_⊎_}
 use mathlib.Core.Path.{_≡_}
-use Prim.Native.Nat.{ℕ, _/_, _%_, _^_}
-use lib.ListN.{getD}
+use Prim.Native.Nat.{ℕ, _/_, _%_, _^_, _<_}
+use lib.ListN.{length, getD}
 use Rattle.wire.specs.Field.{Bytes}
 use Rattle.slot.specs.Logic.{All}
 use Rattle.rules.specs.Model.{controller}
@@ -74,9 +74,9 @@ pub record WearAtC : Type 0 where
       (r / 2 ^ 48 ≡ w .place) × (r / 2 ^ 40 % 2 ^ 8 ≡ w .code) × (r / 2 ^ 32 % 2 ^ 8 ≡ w .kind) × (r % 2 ^ 32 ≡ w .word)
   -- A well-formed area never gets code 1.
   pub areaNever1 : (l set : List ℕ) (slot r : ℕ) (l′ : List ℕ) → Bytes l → wellFormed controller l ≡ true → Worn l set slot r l′ → r / 2 ^ 40 % 2 ^ 8 ≡ 1 → ⊥
-  -- 14, of a read alone, has kind 2, and the word is the slot in the way: it holds the set's cell at the place.
+  -- 14 has kind 2, and the word is the slot in the way: it holds the set's cell at the place.
   pub readHeld : (l set : List ℕ) (slot r : ℕ) (l′ : List ℕ) → Bytes l → Worn l set slot r l′ → r / 2 ^ 40 % 2 ^ 8 ≡ 14
-      → (r / 2 ^ 32 % 2 ^ 8 ≡ 2) × InTheWay controller (stateOf controller l) slot (getD set (r / 2 ^ 48) 0) (r % 2 ^ 32)
+      → (r / 2 ^ 32 % 2 ^ 8 ≡ 2) × (r / 2 ^ 48 < length set) × InTheWay controller (stateOf controller l) slot (getD set (r / 2 ^ 48) 0) (r % 2 ^ 32)
   -- Codes 1, 32, 3 and 4 change no byte.
   pub untouched : (l set : List ℕ) (slot r : ℕ) (l′ : List ℕ) → Bytes l → Worn l set slot r l′
       → (r / 2 ^ 40 % 2 ^ 8 ≡ 1) ⊎ (r / 2 ^ 40 % 2 ^ 8 ≡ 32) ⊎ (r / 2 ^ 40 % 2 ^ 8 ≡ 3) ⊎ (r / 2 ^ 40 % 2 ^ 8 ≡ 4) → l′ ≡ l

@@ -37,21 +37,22 @@ withLogs S slot cells writes =
 abbrev pub held : State → ℕ → ℕ → Bool
 held S slot c = heldByOther (pred slot) (cellAt S c)
 
-abbrev pub tooNew : State → ℕ → ℕ → Bool
-tooNew S slot c = newer (startOf (slotAt S (pred slot))) (cellAt S c)
+abbrev pub isNewer : State → ℕ → ℕ → Bool
+isNewer S slot c = newer (startOf (slotAt S (pred slot))) (cellAt S c)
 
 abbrev pub unreadable : State → ℕ → ℕ → Bool
-unreadable S slot c = held S slot c or tooNew S slot c
+unreadable S slot c = held S slot c or isNewer S slot c
 
--- the entry of group g's write, and what is answered and left with it: the group that the pick rule gives, with no count negative
-abbrev pub raised : State → List ℕ → ℕ → WriteEntry
-raised S set g = record { cell = getD set (erasesPlace g) 0; word = suc (erases (wordsOf S set) g) }
+-- the entry that raises group g's count
+abbrev pub raisedEntry : State → List ℕ → ℕ → WriteEntry
+raisedEntry S set g = record { cell = getD set (erasesPlace g) 0; word = suc (erases (wordsOf S set) g) }
 
-abbrev pub Written : State → List ℕ → ℕ → Levelled → Type 0
-Written S set slot w =
+-- the pick rule gives the group that is answered, no count is negative, and the group's entry alone is written
+abbrev pub PickWritten : State → List ℕ → ℕ → Levelled → Type 0
+PickWritten S set slot w =
     (picked (wordsOf S set) (groupCount set) ≡ some (w .word))
     × (negativeAt (wordsOf S set) (groupCount set) ≡ none)
-    × (w .state ≡ withLogs S slot set (raised S set (w .word) ∷ []))
+    × (w .state ≡ withLogs S slot set (raisedEntry S set (w .word) ∷ []))
 
 -- What an operation w that has begun comes to.
 pub record Left (M : Model) (S : State) (set : List ℕ) (slot : ℕ) (w : Levelled) : Type 0 where
@@ -70,11 +71,11 @@ pub record Left (M : Model) (S : State) (set : List ℕ) (slot : ℕ) (w : Level
       → (w .kind ≡ 0)
       × (w .word ≡ 0)
       × (held S slot (getD set (w .place) 0) ≡ false)
-      × (tooNew S slot (getD set (w .place) 0) ≡ true)
+      × (isNewer S slot (getD set (w .place) 0) ≡ true)
   -- 33 and 34 leave all reads in the log, and nothing written.
   pub unwritten : 33 ≤ w .code → w .state ≡ withLogs S slot set []
   -- A group is picked: its write is done. The log has the one entry.
-  pub written : w .code ≡ 0 → Written S set slot w
+  pub written : w .code ≡ 0 → PickWritten S set slot w
 
 pub record Leaves (M : Model) : Type 0 where
   -- All cells are read: each can be, the words are the shared cells', every cell is in the read log, and nothing is written.

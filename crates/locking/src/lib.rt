@@ -23,6 +23,7 @@ pub fn lock(s: &mut [u8], i: u8) -> Reply
     let next = area::write_at(s, i, v.taken);
     let cell = next.cell;
     let x = area::cell_at(s, cell);
+    // the slot's number as holders have it, from 1
     let own = i + 1;
     if area::held_by_other(i, x) {
         return Reply::LockHeld {

@@ -14,6 +14,7 @@ pub mod Agree
 pub mod AreaKept
 pub mod StateSized
 pub mod RoundTrip
+pub mod Holders
 pub mod PackBytes
 pub mod LaidOut
 pub mod Controller

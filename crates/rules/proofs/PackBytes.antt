@@ -1,12 +1,12 @@
 -- A well-formed state packs to bytes: whatever has one byte is below 256.
 use mathlib.Core.Bool.{Bool, true, false}
 use mathlib.Core.List.{List, [], _∷_, _++_}
-use mathlib.Core.Path.{_≡_, refl}
-use Prim.Native.Nat.{ℕ, suc, _<_, _≤_}
+use mathlib.Core.Path.{_≡_}
+use Prim.Native.Nat.{ℕ, _<_, _≤_}
 use native.Mathlib.Omega.{arith}
-use lib.Dec.{eqb, ltb, leb, lit<}
-use lib.ListN.{length, getD, List·getD-eq-default}
-use borrow.Author.Tests.{leb-true, ltb-true, ltb-false}
+use lib.Dec.{lit<}
+use lib.ListN.{length, getD}
+use borrow.Author.Tests.{leb-true, ltb-true}
 use Rattle.value.proofs.RoundTrip.{legal-kind}
 use Rattle.wire.specs.Field.{Bytes, toBe}
 use Rattle.wire.specs.Table.{cat}
@@ -18,14 +18,15 @@ use Rattle.slot.specs.Logs.{busyRecord}
 use Rattle.slot.specs.Layout.{readCapacity, writeCapacity, noRead, noWrite, slotBytes}
 use Rattle.slot.specs.Fit.{Bytewise}
 use Rattle.slot.proofs.RoundTrip.{slot-bytes}
-use Rattle.slot.specs.Logic.{_and_, same, every}
+use Rattle.slot.specs.Logic.{_and_}
 use Rattle.rules.specs.Model.{Model, areaLength, FitsBytes}
 use Rattle.rules.specs.State.{State, Slot, idle, opened, locking, twilight, publishing, cellCount, cellAt, slotAt, noCell}
-use Rattle.rules.specs.LogsRight.{cellRight, loggedRight, readsRight, writesRight, cellCountRight, holdersRight}
+use Rattle.rules.specs.LogsRight.{cellRight, loggedRight, readsRight, writesRight, cellCountRight}
 use Rattle.rules.specs.StateRight.{slotRight, holds, shapeRight, stateRightButHolders, stateHoldersRight}
 use Rattle.rules.specs.Layout.{cellBytes, lay, header, pack}
 use Rattle.rules.specs.declared.Cell.{Cell}
-use Rattle.slot.proofs.Logic.{and-left, and-right, every-at, all-at}
+use Rattle.slot.proofs.Logic.{and-left, and-right, all-at}
+use Rattle.rules.proofs.Holders.{holder-within}
 use Rattle.rules.proofs.StateSized.{padded-each, LogsHold, logs-hold, state-sized}
 
 cell-is-bytes : (M : Model) → FitsBytes M → (clock : ℕ) (x : Cell) → cellRight clock x ≡ true → x .holder ≤ M .slots → Bytes (cellBytes (M .stampBytes) x)
@@ -84,19 +85,6 @@ module _ (cells : List Cell) (clock : ℕ) (few : length cells < 256) where
   slot-is-bytewise (publishing ignoring taken start commit reads writes) p =
       let below : taken < length writes = ltb-true _ _ (and-left _ _ (and-right _ _ p)) in
       busy-is-bytewise 4 ignoring taken start commit reads writes (logs-hold cells clock start reads writes (and-left _ _ p)) (lit< tt) (omega arith)
-
--- a cell's holder is no slot beyond the last, whether the cell is there or not
-pub holder-within : (cells : List Cell) (slots : ℕ) (holding : ℕ → ℕ → Bool) → holdersRight cells slots holding ≡ true → (c : ℕ) → getD cells c noCell .holder ≤ slots
-unfolding holdersRight
-holder-within cells slots holding p c = by (ltb c (length cells)) refl
-  where
-    by : (b : Bool) → ltb c (length cells) ≡ b → getD cells c noCell .holder ≤ slots
-    by true e =
-        leb-true _ _
-        (and-left _ _
-        (every-at (length cells)
-        (λ d. leb (getD cells d noCell .holder) slots and every slots (λ s. same (eqb (getD cells d noCell .holder) (suc s)) (holding s d))) p c (ltb-true _ _ e)))
-    by false e = rw (List·getD-eq-default cells noCell {n = c} (ltb-false _ _ e)) (omega arith)
 
 pub pack-bytes : (M : Model) → FitsBytes M → (S : State) → stateRightButHolders M S ≡ true → stateHoldersRight S ≡ true → Bytes (pack M S)
 unfolding pack header stateRightButHolders stateHoldersRight cellCountRight shapeRight

@@ -21,9 +21,9 @@ abbrev pub ending : Outcome → Ending
 ending (refused r) = refusal (replyCode r)
 ending (accepted r T) = outcome (replyCode r)
 
--- How low a code is: 14 stands between 9 and 10, and every other code where its number is.
+-- How low a code is, in tenths: 14 stands between 9 and 10, and every other code where its number is.
 abbrev pub height : ℕ → ℕ
-height code = cond (eqb code 14) 19 (2 * code)
+height code = cond (eqb code 14) 95 (10 * code)
 
 -- a row of the table applies, and its code is lower than k
 abbrev pub lowerApplies : ℕ → Row → Bool

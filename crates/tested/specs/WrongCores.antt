@@ -22,7 +22,7 @@ use Rattle.rules.specs.Step.{Call, step}
 use Rattle.rules.specs.Layout.{stateOf}
 use Rattle.tested.specs.Core.{Core, Askable, Meets, coreOf, withRow}
 
--- "a core that always refuses": with whichever code, but 0 and 13
+-- "a core that always refuses": with whichever code but 0 and 13
 abbrev pub AlwaysRefuses : Core → Type 0
 AlwaysRefuses core = (l : List ℕ) (call : Call) → Askable l call → Refuses (core l call .answer / 2 ^ 40)
 

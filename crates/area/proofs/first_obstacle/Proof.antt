@@ -1,5 +1,5 @@
 -- `first_obstacle` meets its contract: before each turn no other slot holds a cell of the entries before the last `left`, so the search goes on from there.
-use mathlib.Core.Path.{_≡_, refl, sym, ap, _∙_}
+use mathlib.Core.Path.{_≡_, sym, ap, _∙_}
 use mathlib.Core.Bool.{Bool}
 use mathlib.Core.List.{List}
 use Prim.Native.Nat.{ℕ, _+_, _-_, _≤_}

@@ -23,7 +23,7 @@ module _ (M : Model) (S : State) (right : Right M S) where
   holders-back =
       every-of (length (S .cells)) _
       (λ c h.
-      and-intro _ _ (le-leb (cellAt S c .holder) (length (S .slots)) (rw (right .slot-count) (right .holder-slot c h)))
+      and-intro _ _ (le-leb (cellAt S c .holder) (length (S .slots)) (rw (right .slot-count) (right .holder-slot c)))
       (every-of (length (S .slots)) _ (λ s b. eq-same _ _ (right .held c s h (rw (right .slot-count) at b)))))
 
   pub right-back : stateRight M S ≡ true

@@ -56,7 +56,7 @@ module _ (M : Model) (S : State) (right : Right M S) (i : ℕ) (inside : i < M .
         last = right .clock-last;
         kinds = kinds-set (S .cells) c y kind;
         cell = set-elim (λ d (z : Cell). d < cellCount S → cellRight (S .clock) z ≡ true) (S .cells) c y noCell there (λ h. legal) (λ d n. right .cell d);
-        holder = set-elim (λ d (z : Cell). d < cellCount S → z .holder ≤ M .slots) (S .cells) c y noCell there (λ h. holder) (λ d n. right .holder-slot d);
+        holder = set-elim (λ d (z : Cell). z .holder ≤ M .slots) (S .cells) c y noCell there holder (λ d n. right .holder-slot d);
         slot = slot;
         apart = apart;
         mine =
@@ -110,7 +110,7 @@ module _ (M : Model) (S : State) (right : Right M S) (i : ℕ) (inside : i < M .
         last = right .clock-last;
         kinds = kinds-free i (S .cells);
         cell = λ c h. free-elim i (S .cells) c (λ y. cellRight (S .clock) y ≡ true) (λ p. right .cell c h) (λ p. right .cell c h);
-        holder = λ c h. free-elim i (S .cells) c (λ y. y .holder ≤ M .slots) (λ p. omega arith) (λ p. right .holder-slot c h);
+        holder = λ c. free-elim i (S .cells) c (λ y. y .holder ≤ M .slots) (λ p. omega arith) (λ p. right .holder-slot c);
         slot = tt;
         apart = λ s n q. refl;
         mine = λ c h. free-elim i (S .cells) c (λ y. eqb (y .holder) (suc i) ≡ false) (λ p. eqb·zero-suc i) (λ p. p);

@@ -30,7 +30,7 @@ pub record Turned (M : Model) (S : State) (i clock : ℕ) (cells : List Cell) (x
   pub last : clock ≤ lastStamp M
   pub kinds : SameKinds (S .cells) cells
   pub cell : (c : ℕ) → c < cellCount S → cellRight clock (getD cells c noCell) ≡ true
-  pub holder : (c : ℕ) → c < cellCount S → getD cells c noCell .holder ≤ M .slots
+  pub holder : (c : ℕ) → getD cells c noCell .holder ≤ M .slots
   pub slot : SlotHolds (S .cells) clock x
   pub apart : StampApart S i x
   -- it holds what it has to hold, and of the other slots' cells none is taken or freed
@@ -74,7 +74,7 @@ module _ (M : Model) (S : State) (right : Right M S) (i : ℕ) (inside : i < M .
           slot-count = length-set (S .slots) i x ∙ right .slot-count;
           cell-count = rw (t .kinds .count) (right .cell-count);
           cell = λ c h. t .cell c (rw (t .kinds .count) at h);
-          holder-slot = λ c h. t .holder c (rw (t .kinds .count) at h);
+          holder-slot = t .holder;
           slot = slots-right;
           apart = stamps-apart;
           held = λ c s h b.
