@@ -11,9 +11,7 @@ use Rattle.slot.specs.declared.WriteEntry.{WriteEntry}
 use Rattle.slot.specs.declared.WriteFound.{WriteFound}
 use Rattle.rules.specs.Cells.{heldByOther}
 use Rattle.rules.specs.declared.Cell.{Cell}
-use Rattle.area.specs.declared.Obstacle.{Obstacle}
-use Rattle.area.specs.InPlace.{cellStart, slotStart, cellCountIn, clockNow, cellIn, phaseIn, fieldsIn, writesIn, writeIn, readFoundIn, writeFoundIn, markedIn}
-use Rattle.area.specs.Reload.{markedReads, reloadedReads, obstacleIn}
+use Rattle.area.specs.InPlace.{cellStart, slotStart, cellCountIn, clockNow, cellIn, phaseIn, fieldsIn, writesIn, readIn, writeIn, readFoundIn, writeFoundIn, markedIn}
 
 pub cell-offset-unique : (c : ℕ) (r₁ r₂ : ℕ) → r₁ ≡ cellStart c → r₂ ≡ cellStart c → r₁ ≡ r₂
 cell-offset-unique c r₁ r₂ = unique
@@ -44,6 +42,9 @@ module _ (l : List ℕ) where
     pub writes-at-unique : (r₁ r₂ : SlotRecord) → r₁ ≡ writesIn l i → r₂ ≡ writesIn l i → r₁ ≡ r₂
     writes-at-unique r₁ r₂ = unique
 
+    pub read-at-unique : (k : ℕ) (r₁ r₂ : ReadEntry) → r₁ ≡ readIn l i k → r₂ ≡ readIn l i k → r₁ ≡ r₂
+    read-at-unique k r₁ r₂ = unique
+
     pub write-at-unique : (k : ℕ) (r₁ r₂ : WriteEntry) → r₁ ≡ writeIn l i k → r₂ ≡ writeIn l i k → r₁ ≡ r₂
     write-at-unique k r₁ r₂ = unique
 
@@ -55,12 +56,3 @@ module _ (l : List ℕ) where
 
     pub some-marked-unique : (r₁ r₂ : Bool) → r₁ ≡ markedIn l i → r₂ ≡ markedIn l i → r₁ ≡ r₂
     some-marked-unique r₁ r₂ = unique
-
-    pub reloaded-reads-unique : (r₁ r₂ : List ReadEntry) → r₁ ≡ reloadedReads l i → r₂ ≡ reloadedReads l i → r₁ ≡ r₂
-    reloaded-reads-unique r₁ r₂ = unique
-
-    pub marked-reads-unique : (r₁ r₂ : List ReadEntry) → r₁ ≡ markedReads l i → r₂ ≡ markedReads l i → r₁ ≡ r₂
-    marked-reads-unique r₁ r₂ = unique
-
-    pub first-obstacle-unique : (r₁ r₂ : Obstacle) → r₁ ≡ obstacleIn l i → r₂ ≡ obstacleIn l i → r₁ ≡ r₂
-    first-obstacle-unique r₁ r₂ = unique

@@ -1,3 +1,2 @@
 pub mod Good
 pub mod InPlace
-pub mod Reload

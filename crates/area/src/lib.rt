@@ -1,10 +1,9 @@
-// The lent area, read in place: the cells, the slots and the clock at their offsets, and what the cells say of a slot's read log.
+// The lent area, read in place: the cells, the slots and the clock at their offsets.
 ghost use mathlib.Core.Path.{_≡_};
 ghost use Prim.Native.Nat.{_+_, _<_, _≤_};
 ghost use lib.ListN.{length, drop};
 ghost use Rattle.slot.specs.Layout.{readCapacity, writeCapacity};
-ghost use Rattle.slot.specs.Logic.{_or_};
-ghost use Rattle.rules.specs.Cells.{heldByOther, newer, withMark, reloaded};
+ghost use Rattle.rules.specs.Cells.{heldByOther};
 ghost use Rattle.rules.specs.Layout.{countIn, cellOf};
 ghost use Rattle.area.specs.Good.{Good, stateIn};
 ghost use Rattle.area.specs.InPlace.{
@@ -22,7 +21,6 @@ ghost use Rattle.area.specs.InPlace.{
   writeFoundIn,
   markedIn,
 };
-ghost use Rattle.area.specs.Reload.{markedReads, reloadedReads, obstacleIn};
 use rules::Cell;
 use slot::ReadEntry;
 use slot::ReadFound;
@@ -123,7 +121,7 @@ pub fn writes_at(s: &[u8], i: u8) -> SlotRecord
 }
 
 // Read entry `k` of slot `i`.
-fn read_at(s: &[u8], i: u8, k: usize) -> ReadEntry
+pub fn read_at(s: &[u8], i: u8, k: usize) -> ReadEntry
     requires { ⌜ Good (now s) × (i < 8) × (k < readCapacity) ⌝ }
     ensures { λ r. ⌜ r ≡ readIn (now (s .entry)) i k ⌝ }
 {
@@ -162,12 +160,6 @@ pub fn some_marked(s: &[u8], i: u8) -> bool
     packed::some_marked(s, slot_offset(s, i), STAMP)
 }
 
-// What stands in the way of a reload.
-pub enum Obstacle {
-    Held { cell: u8, holder: u8 },
-    Clear,
-}
-
 // Whether a cell is held by a slot other than `i`. A cell's holder counts slots from 1, and 0 is none: one's own hold is no conflict.
 pub fn held_by_other(i: u8, x: Cell) -> bool
     requires { ⌜ i < 8 ⌝ }
@@ -177,99 +169,4 @@ pub fn held_by_other(i: u8, x: Cell) -> bool
         return false;
     }
     x.holder != i + 1
-}
-
-// Whether what was read of a cell is out of date: another slot holds it, or it has a stamp above `start`.
-fn outdated(i: u8, start: u64, x: Cell) -> bool
-    requires { ⌜ i < 8 ⌝ }
-    ensures { λ r. ⌜ r ≡ (heldByOther i x or newer start x) ⌝ }
-{
-    if held_by_other(i, x) {
-        return true;
-    }
-    start < x.stamp
-}
-
-// A read entry with its mark, as enter gives it to slot `i`.
-fn marked_entry(s: &[u8], i: u8, start: u64, e: ReadEntry) -> ReadEntry
-    requires { ⌜ Good (now s) × (i < 8) × (e .cell < countIn (now s)) ⌝ }
-    ensures { λ r. ⌜ r ≡ withMark (stateIn (now (s .entry))) i start e ⌝ }
-{
-    let x = cell_at(s, e.cell);
-    ReadEntry {
-        cell: e.cell,
-        mark: outdated(i, start, x),
-        word: e.word,
-    }
-}
-
-// A read entry with its cell's present word.
-fn reloaded_entry(s: &[u8], e: ReadEntry) -> ReadEntry
-    requires { ⌜ Good (now s) × (e .cell < countIn (now s)) ⌝ }
-    ensures { λ r. ⌜ r ≡ reloaded (stateIn (now (s .entry))) e ⌝ }
-{
-    let x = cell_at(s, e.cell);
-    ReadEntry {
-        cell: e.cell,
-        mark: false,
-        word: x.word,
-    }
-}
-
-// The read log of slot `i` with its marks.
-pub fn marked_reads(s: &[u8], i: u8) -> [ReadEntry; SlotRecord::READS]
-    requires { ⌜ Good (now s) × (i < 8) ⌝ }
-    ensures { λ r. ⌜ r ≡ markedReads (now (s .entry)) i ⌝ }
-{
-    let v = fields_at(s, i);
-    let start = v.start;
-    let n = v.readcount as usize;
-    let mut log = v.reads;
-    let mut k = 0;
-    while k < n {
-        log[k] = marked_entry(s, i, start, read_at(s, i, k));
-        k += 1;
-    }
-    log
-}
-
-// The read log of slot `i` with the cells' present words.
-pub fn reloaded_reads(s: &[u8], i: u8) -> [ReadEntry; SlotRecord::READS]
-    requires { ⌜ Good (now s) × (i < 8) ⌝ }
-    ensures { λ r. ⌜ r ≡ reloadedReads (now (s .entry)) i ⌝ }
-{
-    let v = fields_at(s, i);
-    let n = v.readcount as usize;
-    let mut log = v.reads;
-    let mut k = 0;
-    while k < n {
-        log[k] = reloaded_entry(s, read_at(s, i, k));
-        k += 1;
-    }
-    log
-}
-
-// The first cell of the read log that a slot other than `i` holds: the loop yields what stands in reload's way.
-pub fn first_obstacle(s: &[u8], i: u8) -> Obstacle
-    requires { ⌜ Good (now s) × (i < 8) ⌝ }
-    ensures { λ r. ⌜ r ≡ obstacleIn (now (s .entry)) i ⌝ }
-{
-    let v = fields_at(s, i);
-    let n = v.readcount as usize;
-    // entries still to be looked at
-    let mut left = n;
-    loop {
-        if left == 0 {
-            break Obstacle::Clear;
-        }
-        let e = read_at(s, i, n - left);
-        let x = cell_at(s, e.cell);
-        if held_by_other(i, x) {
-            break Obstacle::Held {
-                cell: e.cell,
-                holder: x.holder,
-            };
-        }
-        left -= 1;
-    }
 }

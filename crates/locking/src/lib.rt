@@ -58,7 +58,7 @@ pub fn enter(s: &mut [u8], i: u8) -> Reply
         return Reply::LastStamp;
     }
     let commit = clock + 1;
-    let w = v.entered(area::marked_reads(s, i), commit);
+    let w = v.entered(readlog::marked_reads(s, i), commit);
     stores::store_reads_clock(s, i, w, commit);
     Reply::Verdict(!w.some_marked())
 }

@@ -26,9 +26,9 @@ use Rattle.rules.specs.Layout.{lay, view}
 use Rattle.rules.specs.Cells.{reloaded, obstacle}
 use Rattle.rules.specs.Outcome.{Outcome, refused, accepted, foundOr}
 use Rattle.rules.specs.Steps.{read, reread, ask, reload, ignore}
-use Rattle.area.specs.declared.Obstacle.{Obstacle}
-use Rattle.area.specs.declared.Obstacle.the-variants.{Held, Clear}
-use Rattle.area.specs.Reload.{obstacleOf}
+use Rattle.readlog.specs.declared.Obstacle.{Obstacle}
+use Rattle.readlog.specs.declared.Obstacle.the-variants.{Held, Clear}
+use Rattle.readlog.specs.Reload.{obstacleOf}
 use Rattle.ways.proofs.Tests.{no-cell, is-cell}
 use Rattle.ways.proofs.Found.{read-sought}
 use Rattle.ways.proofs.Phase.{is-twilight, when-twilight, not-twilight}

@@ -4,8 +4,8 @@ ghost use Rattle.rules.specs.Model.{controller};
 ghost use Rattle.rules.specs.Steps as rule;
 ghost use Rattle.area.specs.Good.{Good, stateIn};
 ghost use Rattle.ways.specs.Did.{Did};
-use area::Obstacle;
 use call::Reply;
+use readlog::Obstacle;
 use slot::ReadFound;
 
 // The read log's value of the cell, marked or not.
@@ -51,7 +51,7 @@ pub fn reload(s: &mut [u8], i: u8) -> Reply
     if area::phase_at(s, i) != 3 {
         return Reply::NotAllowed;
     }
-    if let Obstacle::Held { cell, holder } = area::first_obstacle(s, i) {
+    if let Obstacle::Held { cell, holder } = readlog::first_obstacle(s, i) {
         return Reply::ReloadHeld { cell, holder };
     }
     let clock = area::clock(s);
@@ -60,7 +60,7 @@ pub fn reload(s: &mut [u8], i: u8) -> Reply
     }
     let stamp = clock + 1;
     let v = area::fields_at(s, i);
-    let w = v.reloaded(area::reloaded_reads(s, i), stamp);
+    let w = v.reloaded(readlog::reloaded_reads(s, i), stamp);
     stores::store_reads_clock(s, i, w, stamp);
     Reply::Done
 }

@@ -7,12 +7,12 @@ use Rattle.slot.specs.declared.SlotRecord.{SlotRecord}
 use Rattle.slot.specs.Layout.{noRead}
 use Rattle.rules.specs.State.{slotAt}
 use Rattle.rules.specs.Layout.{lay}
 use Rattle.area.specs.Good.{stateIn}
 use Rattle.area.proofs.Logged.{Counted, counted-of}
 use Rattle.rules.specs.Cells.{reloaded}
-use Rattle.area.proofs.Fill.{filled, filled-length, filled-next}
-use Rattle.area.proofs.reloaded_reads.Statement.{statement}
-use Rattle.area.proofs.reloaded_reads.Tie as tie
+use Rattle.readlog.proofs.Fill.{filled, filled-length, filled-next}
+use Rattle.readlog.proofs.reloaded_reads.Statement.{statement}
+use Rattle.readlog.proofs.reloaded_reads.Tie as tie
 
 abbrev Inv-loop : tie.InvT-loop
 Inv-loop s i n log₀ k₀ log k = (k ≤ n) × Counted s i n × (log ≡ filled (reloaded (stateIn s)) noRead (lay (slotAt (stateIn s) i) .reads) k)

@@ -6,10 +6,10 @@ use Rattle.slot.specs.declared.ReadEntry.{ReadEntry}
 use Rattle.slot.specs.Logs.{readLog, paddedReads}
 use Rattle.rules.specs.State.{State, cellAt}
 use Rattle.rules.specs.Cells.{withMark, reloaded, obstacle}
 use Rattle.area.specs.Good.{stateIn}
 use Rattle.area.specs.InPlace.{recordAt}
-use Rattle.area.specs.declared.Obstacle.{Obstacle}
-use Rattle.area.specs.declared.Obstacle.the-variants.{Held, Clear}
+use Rattle.readlog.specs.declared.Obstacle.{Obstacle}
+use Rattle.readlog.specs.declared.Obstacle.the-variants.{Held, Clear}
 
 abbrev pub markedReads : List ℕ → ℕ → List ReadEntry
 markedReads l i = paddedReads (map (withMark (stateIn l) i (recordAt l i .start)) (readLog (recordAt l i)))

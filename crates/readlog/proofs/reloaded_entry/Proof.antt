@@ -2,8 +2,8 @@
 use mathlib.Core.Bool.{false}
 use borrow.Author.Needs.{needs}
 use Rattle.rules.specs.Cells.{reloaded}
-use Rattle.area.proofs.reloaded_entry.Statement.{statement}
-use Rattle.area.proofs.reloaded_entry.Tie as tie
+use Rattle.readlog.proofs.reloaded_entry.Statement.{statement}
+use Rattle.readlog.proofs.reloaded_entry.Tie as tie
 
 cell-at-requires : tie.Need-cell-at-requires
 cell-at-requires c κs = search needs

@@ -12,12 +12,12 @@ use Rattle.slot.proofs.Search.{search-next, search-found, search-end}
 use Rattle.rules.specs.Cells.{heldByOther, obstacle}
 use Rattle.rules.specs.State.{State, cellAt, slotAt}
 use Rattle.rules.specs.Layout.{lay}
 use Rattle.area.specs.Good.{stateIn}
 use Rattle.area.proofs.Logged.{Counted, counted-of}
-use Rattle.area.specs.declared.Obstacle.the-variants.{Held}
-use Rattle.area.specs.Reload.{obstacleOf}
-use Rattle.area.proofs.first_obstacle.Statement.{statement}
-use Rattle.area.proofs.first_obstacle.Tie as tie
+use Rattle.readlog.specs.declared.Obstacle.the-variants.{Held}
+use Rattle.readlog.specs.Reload.{obstacleOf}
+use Rattle.readlog.proofs.first_obstacle.Statement.{statement}
+use Rattle.readlog.proofs.first_obstacle.Tie as tie
 
 abbrev Inv-loop : tie.InvT-loop
 Inv-loop s i n left₀ left =

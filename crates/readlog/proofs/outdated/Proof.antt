@@ -3,8 +3,8 @@ use mathlib.Core.Path.{sym, _∙_}
 use borrow.Author.Needs.{needs}
 use Rattle.slot.specs.Logic.{_or_}
 use Rattle.rules.specs.Cells.{newer}
-use Rattle.area.proofs.outdated.Statement.{statement}
-use Rattle.area.proofs.outdated.Tie as tie
+use Rattle.readlog.proofs.outdated.Statement.{statement}
+use Rattle.readlog.proofs.outdated.Tie as tie
 
 held-by-other-requires : tie.Need-held-by-other-requires
 held-by-other-requires c κs = search needs

@@ -4,8 +4,8 @@ use borrow.Author.Needs.{needs}
 use Rattle.slot.specs.Logic.{_or_}
 use Rattle.rules.specs.Cells.{heldByOther, newer, withMark}
 use Rattle.rules.specs.declared.Cell.{Cell}
-use Rattle.area.proofs.marked_entry.Statement.{statement}
-use Rattle.area.proofs.marked_entry.Tie as tie
+use Rattle.readlog.proofs.marked_entry.Statement.{statement}
+use Rattle.readlog.proofs.marked_entry.Tie as tie
 
 cell-at-requires : tie.Need-cell-at-requires
 cell-at-requires c κs = search needs
