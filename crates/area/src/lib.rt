@@ -5,7 +5,7 @@ ghost use lib.ListN.{length, drop};
 ghost use Rattle.slot.specs.Layout.{readCapacity, writeCapacity};
 ghost use Rattle.rules.specs.Cells.{heldByOther};
 ghost use Rattle.rules.specs.Layout.{countIn, cellOf};
-ghost use Rattle.area.specs.Good.{Good, stateIn};
+ghost use Rattle.area.specs.Good.{Good};
 ghost use Rattle.area.specs.InPlace.{
   cellStart,
   slotStart,
