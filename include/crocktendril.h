@@ -153,7 +153,8 @@ extern "C" {
  *                    is not in the write log
  *   LOG_FULL         READ, WRITE: the log has 16 entries, and needs one more
  *   READ_NEWER       READ: the cell's stamp is above start. Waiting never
- *                    helps: give up. A transaction begun anew can read it
+ *                    helps: give up. A transaction begun anew can read it,
+ *                    unless the cell is held or written again
  *   HELD_BY_ANOTHER  LOCK: another slot holds the cell; RELOAD: another slot
  *                    holds a cell that was read. Kind WHOLE, word
  *                    cell * 256 + holder; for RELOAD of the first such cell in
@@ -165,8 +166,9 @@ extern "C" {
  *   ABORTED          FINISH met a mark that is not ignored: the transaction has
  *                    ended without commit, and the slot and its cells are free
  *   READ_HELD        READ: another slot holds the cell. Kind WHOLE, word the
- *                    holder. Let it run and try again, a few times. Once the
- *                    cell is free, the read is done or gets READ_NEWER
+ *                    holder. Let it run and try again, a few times; then give
+ *                    up. Once the cell is free, the read is done or gets
+ *                    READ_NEWER
  */
 #define CROCKTENDRIL_CODE_DONE 0
 #define CROCKTENDRIL_CODE_NOT_WELL_FORMED 1
@@ -201,8 +203,11 @@ extern "C" {
  * in the word of HELD_BY_ANOTHER and of READ_HELD, the held cell in that of
  * HELD_BY_ANOTHER alone: after READ_HELD it is the cell that was to be read.
  *
+ * WARNING: CROCKTENDRIL_HELD_CELL would say 0 of each READ_HELD, as if it were
+ * cell 0.
+ *
  * What they say can be relied on: the holder is a slot from 1 to 8 other than
- * the one that made the call, and it holds that cell.
+ * the one that made the call, and it held that cell when the call was made.
  */
 #define CROCKTENDRIL_HOLDER(word) ((unsigned)((uint32_t)(word) & 255))
 #define CROCKTENDRIL_HELD_CELL(word) ((unsigned)((uint32_t)(word) >> 8))

@@ -59,7 +59,8 @@ extern "C" {
  * A place is that of a cell in the set, from 0: group place / 2, its truth cell
  * if the place is even, its count if it is odd. With other codes it is 0. Kind
  * and word are 0 but for DONE and READ_HELD. The word of READ_HELD is that of a
- * step: CROCKTENDRIL_HOLDER takes it, and says what it says there.
+ * step. CROCKTENDRIL_HOLDER takes it: another slot, which held the cell at the
+ * place.
  *
  * WARNING: DONE and READ_HELD both have kind WHOLE. Look at the code before you
  * take the word for a group.

@@ -32,11 +32,16 @@
 #define AT_REST 0
 #define WEAR 255
 
+/* A task that is refused so often in a row, by a cell that is held or newer,
+   drops its work. */
+#define PATIENCE 5
+
 struct task {
     uint8_t slot;
     uint8_t next;
     unsigned wanted; /* groups that it still needs */
     unsigned group;  /* the last one that it picked */
+    int refused;     /* how often in a row */
 };
 
 /* The one area. On a controller it may be in battery-backed memory. */
@@ -168,10 +173,24 @@ static uint8_t leave(struct task *task)
     return CROCKTENDRIL_STEP_GIVE_UP;
 }
 
+/* What comes after a call that is done. */
+static uint8_t go_on(struct task *task, uint8_t next)
+{
+    task->refused = 0;
+    return next;
+}
+
+/* What comes after a refusal that trying again may mend, if patience is left. */
+static uint8_t again(struct task *task, uint8_t next)
+{
+    return ++task->refused < PATIENCE ? next : leave(task);
+}
+
 /* Picks a group. A refusal leaves reads in the log, so the task gives up before
    it tries again. That helps after two of them: a cell that is held will be
    free, as the holder has turns too, and one that is newer than this
-   transaction is not newer than the next. */
+   transaction is not newer than the next. Newer is not met here: in the one
+   turn between its begin and its pick nobody can both enter and publish. */
 static uint8_t wear(struct task *task)
 {
     uint64_t answer = crocktendril_wear(area, sizeof area, set, sizeof set, task->slot);
@@ -180,10 +199,10 @@ static uint8_t wear(struct task *task)
     switch (CROCKTENDRIL_WEAR_CODE(answer)) {
     case CROCKTENDRIL_CODE_DONE:
         task->group = (unsigned)CROCKTENDRIL_WEAR_WORD(answer);
-        return CROCKTENDRIL_STEP_CLOSE;
+        return go_on(task, CROCKTENDRIL_STEP_CLOSE);
     case CROCKTENDRIL_CODE_READ_HELD:
     case CROCKTENDRIL_CODE_READ_NEWER:
-        return CROCKTENDRIL_STEP_GIVE_UP;
+        return again(task, CROCKTENDRIL_STEP_GIVE_UP);
     default:
         return leave(task);
     }
@@ -195,9 +214,9 @@ static uint8_t lock(struct task *task)
 {
     switch (take(task, CROCKTENDRIL_STEP_LOCK, "lock")) {
     case CROCKTENDRIL_CODE_DONE:
-        return CROCKTENDRIL_STEP_ENTER;
+        return go_on(task, CROCKTENDRIL_STEP_ENTER);
     case CROCKTENDRIL_CODE_HELD_BY_ANOTHER:
-        return CROCKTENDRIL_STEP_LOCK;
+        return again(task, CROCKTENDRIL_STEP_LOCK);
     default:
         return leave(task);
     }
@@ -271,7 +290,7 @@ static unsigned long read_word(const struct task *task, uint8_t cell)
    the sum of the counts. */
 static unsigned long monitor(void)
 {
-    struct task task = {MONITOR, AT_REST, 0, 0};
+    struct task task = {MONITOR, AT_REST, 0, 0, 0};
     unsigned long erases, sum = 0;
     unsigned group;
 
@@ -288,8 +307,8 @@ static unsigned long monitor(void)
 
 int main(void)
 {
-    struct task logger = {LOGGER, CROCKTENDRIL_STEP_BEGIN, 2, 0};
-    struct task recipes = {RECIPES, CROCKTENDRIL_STEP_BEGIN, 1, 0};
+    struct task logger = {LOGGER, CROCKTENDRIL_STEP_BEGIN, 2, 0, 0};
+    struct task recipes = {RECIPES, CROCKTENDRIL_STEP_BEGIN, 1, 0, 0};
     unsigned long erases;
 
     /* The answer of a lay-out is compared as it stands. */
