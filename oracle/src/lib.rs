@@ -39,6 +39,7 @@ pub mod wear;
 pub mod wellformed;
 
 mod bytes;
+mod counts;
 mod obstacles;
 mod record;
 mod steps;

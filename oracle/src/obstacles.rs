@@ -2,7 +2,11 @@
 //! comparison has reached.
 
 use crate::call::{Call, Step};
+use crate::counts::{rarest, Count};
 use crate::machine::{Machine, Transaction, SLOTS};
+
+/// How many counts there are, and so how many least ones.
+pub(crate) const COUNTED: usize = 9;
 
 /// Counts of refusals that are due to a holder, or would be but for a lower
 /// code.
@@ -10,8 +14,9 @@ use crate::machine::{Machine, Transaction, SLOTS};
 pub(crate) struct Obstacles {
     locks: u64,
     reloads: u64,
-    /// A reload that is told of its lowest held cell, of the highest one or of
-    /// the last in its read log: each is seen where the first is another one.
+    /// Reloads with several held cells in their read log. A library that names
+    /// the lowest, the highest or the last of them is seen only where the first
+    /// is another.
     first_not_lowest: u64,
     first_not_highest: u64,
     first_not_last: u64,
@@ -22,19 +27,6 @@ pub(crate) struct Obstacles {
     /// Code 11 likewise.
     holders_of_others: [u64; SLOTS],
 }
-
-/// What is counted.
-pub(crate) const NAMES: [&str; 9] = [
-    "code 11 of lock",
-    "code 11 of reload",
-    "code 11 of reload, the first is not the lowest",
-    "code 11 of reload, the first is not the highest",
-    "code 11 of reload, the first is not the last",
-    "code 14 of a cell that is newer, too",
-    "code 9 of a read of a held cell",
-    "code 11 with the holder that is told least",
-    "code 14 with the holder that is told least",
-];
 
 impl Obstacles {
     /// Whether a call with this code is one to be noted.
@@ -49,21 +41,20 @@ impl Obstacles {
         let Some(own) = machine.slot(call.slot) else {
             return;
         };
-        let told = usize::from(holder).wrapping_sub(1);
         match (code, Step::numbered(call.step)) {
             (9, Some(Step::Read)) => {
                 let held = machine.other_holder(call.cell, call.slot).is_some();
                 self.held_and_log_full += u64::from(held);
             }
             (11, step) => {
-                self.holders_of_others[told] += 1;
+                self.holders_of_others[usize::from(holder) - 1] += 1;
                 match step {
                     Some(Step::Lock) => self.locks += 1,
                     _ => self.note_reload(machine, own, call.slot, cell),
                 }
             }
             (14, _) => {
-                self.holders_of_reads[told] += 1;
+                self.holders_of_reads[usize::from(holder) - 1] += 1;
                 let stamp = machine.cells()[usize::from(call.cell)].stamp;
                 self.held_and_newer += u64::from(stamp > own.start);
             }
@@ -81,19 +72,20 @@ impl Obstacles {
         self.first_not_last += u64::from(held.last() != Some(&first));
     }
 
-    /// The counts, in the order of [`NAMES`].
-    pub fn counts(&self) -> [u64; NAMES.len()] {
-        let least = |counts: &[u64; SLOTS]| counts.iter().copied().min().unwrap_or(0);
-        [
-            self.locks,
-            self.reloads,
-            self.first_not_lowest,
-            self.first_not_highest,
-            self.first_not_last,
-            self.held_and_newer,
-            self.held_and_log_full,
-            least(&self.holders_of_others),
-            least(&self.holders_of_reads),
-        ]
+    /// The counts with these least ones, in this order.
+    pub fn counts(&self, least: [u64; COUNTED]) -> Vec<Count> {
+        let named: [(&str, u64); COUNTED] = [
+            ("code 11 of lock", self.locks),
+            ("code 11 of reload", self.reloads),
+            ("code 11 of reload, the first is not the lowest", self.first_not_lowest),
+            ("code 11 of reload, the first is not the highest", self.first_not_highest),
+            ("code 11 of reload, the first is not the last", self.first_not_last),
+            ("code 14 of a cell that is newer, too", self.held_and_newer),
+            ("code 9 of a read of a held cell", self.held_and_log_full),
+            ("code 11 with the holder that is told least", rarest(&self.holders_of_others)),
+            ("code 14 with the holder that is told least", rarest(&self.holders_of_reads)),
+        ];
+        let counts = named.into_iter().zip(least);
+        counts.map(|((name, count), least)| (name.to_string(), count, least)).collect()
     }
 }

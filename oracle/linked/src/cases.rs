@@ -68,7 +68,7 @@ pub fn wear() -> Option<Vec<WearCase>> {
 
 /// Each group has fewer erases than the one before it. The cells of the set
 /// are those that no other slot holds, the last of them in the last place.
-fn wear_of(groups: usize) -> Option<[WearCase; 4]> {
+fn wear_of(groups: usize) -> Option<[WearCase; 5]> {
     let last = groups - 1;
     let place = (2 * last + 1) as u64;
     let fewer = |group: usize| (true, (GROUPS_AT_MOST - group) as i32);
@@ -80,16 +80,20 @@ fn wear_of(groups: usize) -> Option<[WearCase; 4]> {
     let mut set_held = set.clone();
     // Of the right kind, and held by another slot.
     set_held[2 * last + 1] = HELD;
-    let case = |read: &[(bool, i32)], set: &[u8], number| {
-        let stage = Stage::set_on(&values_with(read), 0..0)?.then(Begin);
-        Some(WearCase { area: stage.0.pack(), set: set.to_vec(), number })
+    let fresh = |read: &[(bool, i32)]| Stage::fresh(&values_with(read));
+    let begun = |read: &[(bool, i32)]| Some(fresh(read)?.among_others().then(Begin));
+    let case = |stage: Stage, set: &[u8], number| {
+        let (area, set) = (stage.0.pack(), set.to_vec());
+        WearCase { area, set, number }
     };
     Some([
-        case(&good, &set, (2 << 32) + last as u64)?,
+        case(begun(&good)?, &set, (2 << 32) + last as u64),
         // Slot 1 is in the way.
-        case(&good, &set_held, (place << 48) + (14 << 40) + (2 << 32) + 1)?,
-        case(&negative, &set, (place << 48) + (33 << 40))?,
-        case(&worn_out, &set, 34 << 40)?,
+        case(begun(&good)?, &set_held, (place << 48) + (14 << 40) + (2 << 32) + 1),
+        // The last cell of the set is published after the start.
+        case(fresh(&good)?.then(Begin).among_others(), &set, (place << 48) + (10 << 40)),
+        case(begun(&negative)?, &set, (place << 48) + (33 << 40)),
+        case(begun(&worn_out)?, &set, 34 << 40),
     ])
 }
 
@@ -196,30 +200,35 @@ impl Stage {
     /// The others in their places, after the subject has begun and read these
     /// cells. It is idle if there are none.
     fn set(early_reads: Range<u8>) -> Option<Stage> {
-        Stage::set_on(&usual_values(), early_reads)
-    }
-
-    /// The same with other values of the cells.
-    fn set_on(values: &[Value], early_reads: Range<u8>) -> Option<Stage> {
-        let mut stage = Stage(Machine::fresh(values)?);
+        let mut stage = Stage::fresh(&usual_values())?;
         if !early_reads.is_empty() {
             stage = stage.then(Begin).each(Read, early_reads);
         }
+        Some(stage.among_others())
+    }
+
+    /// All slots idle.
+    fn fresh(values: &[Value]) -> Option<Stage> {
+        Machine::fresh(values).map(Stage)
+    }
+
+    /// The others have come to their places.
+    fn among_others(mut self) -> Stage {
         for step in [Begin, Write, Close, Lock, Enter, Finish, Publish] {
-            stage.make(7, step, STALE);
+            self.make(7, step, STALE);
         }
         for slot in 4..=7 {
-            stage.fill_logs(slot, 16..32);
+            self.fill_logs(slot, 16..32);
         }
         for (slot, cells) in [(1, 16..32), (2, 32..48), (3, 48..64)] {
-            stage.fill_logs(slot, cells.clone());
-            stage.make(slot, Close, 0);
-            cells.for_each(|_| stage.make(slot, Lock, 0));
+            self.fill_logs(slot, cells.clone());
+            self.make(slot, Close, 0);
+            cells.for_each(|_| self.make(slot, Lock, 0));
         }
         for (slot, step) in [(1, Enter), (2, Enter), (2, Finish)] {
-            stage.make(slot, step, 0);
+            self.make(slot, step, 0);
         }
-        Some(stage)
+        self
     }
 
     fn fill_logs(&mut self, slot: u8, cells: Range<u8>) {

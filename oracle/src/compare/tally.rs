@@ -4,6 +4,7 @@ use std::fmt;
 
 use crate::binary::{Sheet, STEPS_AT_MOST};
 use crate::call::{Call, Reply, Step};
+use crate::counts::{self, Count};
 use crate::machine::{Machine, CELLS_AT_MOST};
 use crate::obstacles::{self, Obstacles};
 
@@ -11,8 +12,8 @@ use crate::obstacles::{self, Obstacles};
 /// proportion.
 const LEAST_COUNTS_ARE_FOR: u64 = 2_000;
 
-/// The least counts of steps with another slot in the way, one for each name.
-const OBSTACLES: [u64; obstacles::NAMES.len()] = [4000, 200, 12, 12, 30, 90, 150, 200, 150];
+/// The least counts of steps with another slot in the way.
+const OBSTACLES: [u64; obstacles::COUNTED] = [4000, 200, 12, 12, 30, 90, 60, 200, 150];
 
 /// Counts of what was compared and found alike.
 #[derive(Clone, Debug, Default)]
@@ -27,9 +28,6 @@ pub struct Tally {
     ignores: u64,
     obstacles: Obstacles,
 }
-
-/// What is counted, how often it was there, and how often it has to be.
-type Count = (String, u64, u64);
 
 impl Tally {
     /// Inputs of both sorts.
@@ -76,11 +74,7 @@ impl Tally {
 
     /// The counts that are below their least.
     pub fn short(&self, sheets: u64) -> Vec<String> {
-        let short = self.counts().into_iter().filter_map(|(name, count, least)| {
-            let least = least * sheets / LEAST_COUNTS_ARE_FOR;
-            (count < least).then(|| format!("{name}: {count}, and {least} is the least"))
-        });
-        short.collect()
+        counts::short(self.counts(), sheets, LEAST_COUNTS_ARE_FOR)
     }
 
     fn counts(&self) -> Vec<Count> {
@@ -100,10 +94,7 @@ impl Tally {
             let least = if code == 14 { 2_500 } else { 500 };
             counts.push((format!("code {code}"), self.codes[code], least));
         }
-        let obstacles = obstacles::NAMES.into_iter().zip(self.obstacles.counts());
-        for ((name, count), least) in obstacles.zip(OBSTACLES) {
-            counts.push((name.to_string(), count, least));
-        }
+        counts.extend(self.obstacles.counts(OBSTACLES));
         for step in Step::ALL {
             let count = self.done[usize::from(step.number())];
             counts.push((format!("{} done", step.name()), count, 1_500));

@@ -4,6 +4,7 @@ use std::fmt;
 
 use super::wear_tally::WearTally;
 use crate::call::Call;
+use crate::counts::{self, Count};
 use crate::machine::Machine;
 use crate::obstacles::{self, Obstacles};
 use crate::wellformed::{sentences, SENTENCE_COUNT};
@@ -11,8 +12,8 @@ use crate::wellformed::{sentences, SENTENCE_COUNT};
 /// The least counts are those of so many calls; others are in proportion.
 const LEAST_COUNTS_ARE_FOR: u64 = 250_000;
 
-/// The least counts of steps with another slot in the way, one for each name.
-const OBSTACLES: [u64; obstacles::NAMES.len()] = [1500, 200, 70, 70, 100, 150, 5, 60, 25];
+/// The least counts of steps with another slot in the way.
+const OBSTACLES: [u64; obstacles::COUNTED] = [1500, 200, 70, 70, 100, 150, 5, 60, 25];
 
 /// Counts of the calls that were answered alike.
 #[derive(Clone, Debug, Default)]
@@ -29,9 +30,6 @@ pub struct Tally {
     /// Areas in which no other sentence is broken, for each sentence.
     alone: [u64; SENTENCE_COUNT],
 }
-
-/// What is counted, how often it was there, and how often it has to be.
-pub(super) type Count = (String, u64, u64);
 
 impl Tally {
     /// Calls of all functions.
@@ -75,13 +73,7 @@ impl Tally {
 
     /// The counts that are below their least.
     pub fn short(&self) -> Vec<String> {
-        let calls = self.calls();
-        let counts = self.counts().into_iter();
-        let short = counts.filter_map(|(name, count, least)| {
-            let least = least * calls / LEAST_COUNTS_ARE_FOR;
-            (count < least).then(|| format!("{name}: {count}, and {least} is the least"))
-        });
-        short.collect()
+        counts::short(self.counts(), self.calls(), LEAST_COUNTS_ARE_FOR)
     }
 
     fn counts(&self) -> Vec<Count> {
@@ -105,10 +97,7 @@ impl Tally {
             ("damaged and still well formed", self.still_well_formed, 2000),
         ];
         counts.extend(named.map(|(name, count, least)| (name.to_string(), count, least)));
-        let obstacles = obstacles::NAMES.into_iter().zip(self.obstacles.counts());
-        for ((name, count), least) in obstacles.zip(OBSTACLES) {
-            counts.push((name.to_string(), count, least));
-        }
+        counts.extend(self.obstacles.counts(OBSTACLES));
         for (sentence, count) in sentences().zip(self.alone) {
             counts.push((format!("broken alone: {sentence}"), count, 5));
         }

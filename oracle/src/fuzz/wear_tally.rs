@@ -2,7 +2,7 @@
 
 use std::collections::BTreeMap;
 
-use super::tally::Count;
+use crate::counts::{rarest, Count};
 use crate::inplace::view::{u32_at, CellBytes, CELL_WORD};
 use crate::machine::{Machine, Transaction};
 use crate::record::HEADER_LENGTH;
@@ -104,10 +104,9 @@ impl WearTally {
             let count = self.bad_sets.get(reason).copied().unwrap_or(0);
             counts.push((format!("wear code 32 for this alone: {reason}"), count, least));
         }
-        let rarest = |counts: &[u64]| counts.iter().copied().min().unwrap_or(0);
         let named = [
             ("wear code 14 at the place with fewest of them", rarest(&self.held_reads), 15),
-            ("wear code 10 at the place with fewest of them", rarest(&self.newer_reads), 4),
+            ("wear code 10 at the place with fewest of them", rarest(&self.newer_reads), 2),
             ("wear code 33 at the place with fewest of them", rarest(&self.negatives), 6),
             ("wear code 33 for a group that is not usable", self.negatives_of_unusable, 80),
             ("wear code 34 with a usable group at the last count", self.worn_out, 300),

@@ -21,13 +21,13 @@ pub fn refused(code: u8) -> Answer {
 }
 
 /// A read of a cell that this slot holds.
-pub fn read_held(holder: u32) -> Answer {
-    (14, 2, holder)
+pub fn read_held(holder: u8) -> Answer {
+    (14, 2, holder.into())
 }
 
 /// A lock or a reload that needs this cell, held by this slot.
-pub fn held_by_another(cell: u32, holder: u32) -> Answer {
-    (11, 2, cell * 256 + holder)
+pub fn held_by_another(cell: u8, holder: u8) -> Answer {
+    (11, 2, u32::from(cell) * 256 + u32::from(holder))
 }
 
 #[derive(Clone)]
@@ -84,6 +84,29 @@ impl Bench {
         for line in lines {
             assert_eq!(self.make(line).0, 0, "{line}");
         }
+    }
+
+    /// The slot takes the cells, in ascending order, and keeps them. It is to
+    /// write their own values.
+    pub fn hold(&mut self, slot: u8, cells: &[u8]) {
+        let value = |cell: &u8| self.machine.cells()[usize::from(*cell)].value;
+        let write = |cell: &u8| {
+            let (kind, word) = (value(cell).kind().number(), value(cell).word());
+            format!("write {slot} {cell} raw {kind} {word}")
+        };
+        let mut lines = vec![format!("begin {slot}")];
+        lines.extend(cells.iter().map(write));
+        lines.push(format!("close {slot}"));
+        lines.extend(cells.iter().map(|_| format!("lock {slot}")));
+        lines.iter().for_each(|line| self.make_all(&[line]));
+        assert!(cells.iter().all(|cell| self.machine.holder(*cell) == slot), "{slot}: {cells:?}");
+    }
+
+    /// The slot publishes the cell's own value, so that its stamp is newer.
+    pub fn renew(&mut self, slot: u8, cell: u8) {
+        self.hold(slot, &[cell]);
+        let rest = ["enter", "finish", "publish"].map(|step| format!("{step} {slot}"));
+        rest.iter().for_each(|line| self.make_all(&[line]));
     }
 
     pub fn call(&mut self, call: Call) -> Answer {

@@ -188,12 +188,12 @@ fn every_code_from_2_to_11_and_14() {
 fn held_or_newer() {
     let shown = Shown::of("held-or-newer");
     assert_eq!(shown.answers("read 3 0"), [read_held(1), whole(5), whole(5)]);
-    assert_eq!(shown.answers("read 3 1"), [read_held(2), refused(10), whole(70)]);
+    assert_eq!(shown.answers("read 3 1"), [read_held(2), read_held(2), refused(10), whole(70)]);
     assert_eq!(shown.answers("begin 3"), [DONE, DONE]);
     let in_the_way = [held_by_another(1, 2), held_by_another(0, 1)];
     assert_eq!(shown.answers("reload 3"), [in_the_way[0], in_the_way[1], DONE]);
     assert_eq!(shown.answers("finish 3"), [DONE]);
-    assert_eq!(shown.codes(), [14, 14, 10, 11, 11]);
+    assert_eq!(shown.codes(), [14, 14, 14, 10, 11, 11]);
     assert_eq!(shown.rest, ["cell 0 2 00000005 0 0", "cell 1 2 00000046 1 0", "clock 3"]);
 }
 

@@ -67,6 +67,21 @@ const WRONG_WEARS: [(&str, Wear); 5] = [
     }),
 ];
 
+/// What is told short of a run in which no one is in the way.
+pub const IN_THE_WAY: [&str; 11] = [
+    "code 10:",
+    "code 14:",
+    "code 11 of lock:",
+    "code 11 of reload:",
+    "code 11 of reload, the first is not the lowest:",
+    "code 11 of reload, the first is not the highest:",
+    "code 11 of reload, the first is not the last:",
+    "code 14 of a cell that is newer, too:",
+    "code 9 of a read of a held cell:",
+    "code 11 with the holder that is told least:",
+    "code 14 with the holder that is told least:",
+];
+
 pub fn step(area: &mut [u8], call: Call) -> u64 {
     step_on_bytes(area, call.step, call.slot, call.cell, call.kind, call.word)
 }
@@ -171,8 +186,8 @@ fn the_wear_task_as_a_list_of_calls_is_right() {
 #[test]
 fn a_run_that_reaches_little_is_told_so() {
     let mut tally = Tally::default();
-    // Rounds of the first sort only.
-    for round in (0..4000).step_by(10) {
+    // Rounds of the first sort only, and so many that no least count is 0.
+    for round in (0..8000).step_by(10) {
         one_round(RIGHT, 1, round, &mut tally).unwrap_or_else(|failure| panic!("{failure}"));
     }
     let short = tally.short();
@@ -200,20 +215,7 @@ fn a_run_with_no_one_in_the_way_is_told_so() {
         one_round(RIGHT, 1, round, &mut tally).unwrap_or_else(|failure| panic!("{failure}"));
     }
     let short = tally.short();
-    let starts = [
-        "code 10:",
-        "code 14:",
-        "code 11 of lock:",
-        "code 11 of reload:",
-        "code 11 of reload, the first is not the lowest:",
-        "code 11 of reload, the first is not the highest:",
-        "code 11 of reload, the first is not the last:",
-        "code 14 of a cell that is newer, too:",
-        "code 9 of a read of a held cell:",
-        "code 11 with the holder that is told least:",
-        "code 14 with the holder that is told least:",
-    ];
-    for start in starts {
+    for start in IN_THE_WAY {
         assert!(short.iter().any(|line| line.starts_with(start)), "{start} in {short:?}");
     }
 }

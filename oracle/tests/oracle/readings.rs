@@ -22,13 +22,6 @@ fn publish_by_slot_2(bench: &mut Bench, write: &str) {
     assert_eq!(bench.machine.slot(2), None);
 }
 
-/// Slot 2 takes cell 0 and stays there, in the phase that its lines lead to.
-fn held_by_slot_2(bench: &mut Bench, more: &[&str]) {
-    bench.make_all(&["begin 2", "write 2 0 whole 9", "close 2", "lock 2"]);
-    bench.make_all(more);
-    assert_eq!(bench.machine.holder(0), 2);
-}
-
 #[test]
 fn begin_starts_at_the_clock_with_empty_logs() {
     let mut bench = Bench::of_wholes(1).at_clock(41);
@@ -79,7 +72,8 @@ fn a_held_cell_is_not_readable_whatever_its_holders_phase() {
     let phases: [&[&str]; 3] = [&[], &["enter 2"], &["enter 2", "finish 2"]];
     for more in phases {
         let mut bench = Bench::of_wholes(1);
-        held_by_slot_2(&mut bench, more);
+        bench.hold(2, &[0]);
+        bench.make_all(more);
         // Begun after the holder's stamp: the cell's own stamp is low.
         bench.make_all(&["begin 1"]);
         assert_eq!(bench.make("read 1 0"), read_held(2), "{more:?}");
@@ -92,7 +86,8 @@ fn a_held_cell_marks_whatever_its_holders_phase() {
     for more in phases {
         let mut bench = Bench::of_wholes(2);
         bench.make_all(&["begin 1", "read 1 1", "read 1 0"]);
-        held_by_slot_2(&mut bench, more);
+        bench.hold(2, &[0]);
+        bench.make_all(more);
         bench.make_all(&["close 1"]);
         assert_eq!(bench.make("enter 1"), FALSE, "{more:?}");
         assert_eq!(bench.make("ask 1 0"), TRUE, "{more:?}");
@@ -176,18 +171,6 @@ fn update_of_a_wrong_kind_is_told_before_the_missing_entry() {
 }
 
 #[test]
-fn a_full_log_is_told_before_a_held_cell() {
-    let mut bench = Bench::of_wholes(17);
-    held_by_slot_2(&mut bench, &[]);
-    bench.make_all(&["begin 1"]);
-    for cell in 1..=16 {
-        assert_eq!(bench.make("read 1 0"), read_held(2));
-        bench.make_all(&[&format!("read 1 {cell}")]);
-    }
-    assert_eq!(bench.make("read 1 0"), refused(9));
-}
-
-#[test]
 fn reload_takes_a_new_stamp_without_marks_and_without_reads() {
     let mut bench = Bench::of_wholes(1);
     bench.make_all(&["begin 1", "close 1", "enter 1"]);
@@ -231,7 +214,7 @@ fn reload_of_a_held_cell_is_told_before_the_end_of_the_clock() {
     let mut bench = Bench::of_wholes(1).at_clock(u64::MAX - 1);
     bench.make_all(&["begin 1", "read 1 0", "close 1", "enter 1"]);
     assert_eq!(bench.make("reload 1"), refused(12));
-    held_by_slot_2(&mut bench, &[]);
+    bench.hold(2, &[0]);
     assert_eq!(bench.make("reload 1"), held_by_another(0, 2));
     bench.make_all(&["give up 2"]);
     assert_eq!(bench.make("reload 1"), refused(12));

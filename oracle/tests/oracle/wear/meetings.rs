@@ -1,41 +1,39 @@
 //! Tasks that meet: a read refused because of another task, and tasks that
 //! level on one set.
 
-use super::Answer;
-use super::{
-    begun, code_at, held_at, hold_by_slot_2, picked, reads, refuses, set_of, wear, writes,
-};
+use super::{begun, code_at, held_at, picked, reads, refuses, set_of, wear, writes, Answer};
 use crate::bench::{refused, whole, Bench, DONE, FALSE, TRUE};
 
-/// Slot 2 publishes the cell's own value, so that its stamp is newer.
-fn renew_by_slot_2(bench: &mut Bench, cell: u8) {
-    hold_by_slot_2(bench, cell);
-    bench.make_all(&["enter 2", "finish 2", "publish 2"]);
+#[test]
+fn a_read_of_a_held_cell_is_told_with_its_place() {
+    for place in 0..16 {
+        leaves_the_reads_before(place, |bench| bench.hold(2, &[place]), held_at(place.into()));
+    }
 }
 
 #[test]
-fn a_refused_read_is_told_with_its_place_and_leaves_the_reads_before_it() {
-    type Meeting = (fn(&mut Bench, u8), fn(u64) -> Answer);
-    let meetings: [Meeting; 2] =
-        [(hold_by_slot_2, held_at), (renew_by_slot_2, |place| code_at(place, 10))];
-    for (meet, answer) in meetings {
-        for place in 0..16 {
-            let mut bench = begun(&[(true, 6); 8]);
-            meet(&mut bench, place);
-            assert_eq!(wear(&mut bench, &set_of(8), 1), answer(place.into()));
-            let before: Vec<(u8, u32)> =
-                (0..place).map(|cell| (cell, if cell % 2 == 0 { 1 } else { 6 })).collect();
-            assert_eq!(reads(&bench, 1), before);
-            assert_eq!(writes(&bench, 1), []);
-        }
+fn a_read_of_a_newer_cell_is_told_with_its_place() {
+    for place in 0..16 {
+        leaves_the_reads_before(place, |bench| bench.renew(2, place), code_at(place.into(), 10));
     }
+}
+
+/// The read at this place is refused, with this answer: those before it stay,
+/// and nothing is written.
+fn leaves_the_reads_before(place: u8, meet: impl Fn(&mut Bench), answer: Answer) {
+    let mut bench = begun(&[(true, 6); 8]);
+    meet(&mut bench);
+    assert_eq!(wear(&mut bench, &set_of(8), 1), answer);
+    let before = (0..place).map(|cell| (cell, if cell % 2 == 0 { 1 } else { 6 }));
+    assert_eq!(reads(&bench, 1), before.collect::<Vec<(u8, u32)>>());
+    assert_eq!(writes(&bench, 1), []);
 }
 
 #[test]
 fn the_first_refused_read_is_told() {
     let mut bench = begun(&[(true, 6); 4]);
-    renew_by_slot_2(&mut bench, 6);
-    hold_by_slot_2(&mut bench, 3);
+    bench.renew(2, 6);
+    bench.hold(2, &[3]);
     assert_eq!(wear(&mut bench, &set_of(4), 1), held_at(3));
     assert_eq!(reads(&bench, 1).len(), 3);
     // The reads are in the log now, so the logs are not empty any more.
@@ -45,8 +43,8 @@ fn the_first_refused_read_is_told() {
 #[test]
 fn a_cell_that_is_held_and_newer_is_told_as_held() {
     let mut bench = begun(&[(true, 6); 4]);
-    renew_by_slot_2(&mut bench, 5);
-    hold_by_slot_2(&mut bench, 5);
+    bench.renew(2, 5);
+    bench.hold(2, &[5]);
     assert_eq!(wear(&mut bench, &set_of(4), 1), held_at(5));
     bench.make_all(&["give up 2", "give up 1"]);
     // The stamp is not above a later start.
@@ -59,19 +57,16 @@ fn a_cell_that_is_held_and_newer_is_told_as_held() {
 fn the_holder_is_told_by_its_number() {
     for (holder, caller) in [(1, 8), (8, 1), (3, 5), (5, 3)] {
         let mut bench = Bench::fresh(&super::cells_of(&[(true, 6); 2]));
-        let lines = ["begin H", "write H 2 truth 1", "close H", "lock H"];
-        for line in lines {
-            bench.make_all(&[&line.replace('H', &holder.to_string())]);
-        }
+        bench.hold(holder, &[2]);
         bench.make_all(&[&format!("begin {caller}")]);
-        assert_eq!(wear(&mut bench, &set_of(2), caller), (2, 14, 2, holder));
+        assert_eq!(wear(&mut bench, &set_of(2), caller), (2, 14, 2, holder.into()));
     }
 }
 
 #[test]
 fn a_cell_outside_the_set_is_in_nobodys_way() {
     let mut bench = begun(&[(true, 6); 4]);
-    hold_by_slot_2(&mut bench, 7);
+    bench.hold(2, &[7]);
     assert_eq!(wear(&mut bench, &set_of(3), 1), picked(0));
 }
 

@@ -80,11 +80,3 @@ fn refuses(bench: &Bench, set: &[u8], slot: u8, wanted: u64) {
     assert_eq!(wear(&mut after, set, slot), code(wanted), "{set:?}, slot {slot}");
     assert_eq!(after.bytes, bench.bytes, "{set:?}, slot {slot}");
 }
-
-/// Slot 2 takes the cell and keeps it.
-fn hold_by_slot_2(bench: &mut Bench, cell: u8) {
-    let value = bench.machine.cells()[usize::from(cell)].value;
-    let (kind, word) = (value.kind().number(), value.word());
-    let write = format!("write 2 {cell} raw {kind} {word}");
-    bench.make_all(&["begin 2", &write, "close 2", "lock 2"]);
-}

@@ -2,14 +2,14 @@
 
 use oracle::{wear_in_place, wear_on_bytes};
 
-use super::{begun, code, code_at, held_at, hold_by_slot_2, reads, refuses, wear, LAST_COUNT};
+use super::{begun, code, code_at, held_at, reads, refuses, wear, LAST_COUNT};
 use crate::bench::Bench;
 
 /// Slot 1 of an area with every later fault: cell 0 is held and is in the set,
 /// the count in cell 1 is negative, and no group is left.
 fn all_faults() -> Bench {
     let mut bench = begun(&[(false, -1), (true, LAST_COUNT)]);
-    hold_by_slot_2(&mut bench, 0);
+    bench.hold(2, &[0]);
     bench
 }
 
@@ -70,7 +70,7 @@ fn then_core_codes_then_a_negative_count_then_none_left() {
     assert_eq!(reads(&bench, 1), []);
 
     let mut bench = begun(&[(false, -1), (true, LAST_COUNT)]);
-    hold_by_slot_2(&mut bench, 3);
+    bench.hold(2, &[3]);
     assert_eq!(wear(&mut bench, &[0, 1, 2, 3], 1), held_at(3));
     assert_eq!(reads(&bench, 1), [(0, 0), (1, 0xffff_ffff), (2, 1)]);
 

@@ -3,7 +3,7 @@
 
 use oracle::wear_on_bytes;
 
-use super::{begun, code, code_at, hold_by_slot_2, picked, reads, set_of, wear, writes};
+use super::{begun, code, code_at, picked, reads, set_of, wear, writes};
 use super::{Answer, LAST_COUNT};
 use crate::bench::Bench;
 
@@ -122,7 +122,7 @@ fn the_number_is_put_together_as_the_table_says() {
     assert_eq!(wear_on_bytes(&mut bench.bytes.clone(), &[0, 1], 9), 0x0000_0300_0000_0000);
     assert_eq!(wear_on_bytes(&mut bench.bytes.clone(), &[0, 1], 2), 0x0000_0400_0000_0000);
     assert_eq!(wear_on_bytes(&mut [], &[0, 1], 1), 0x0000_0100_0000_0000);
-    hold_by_slot_2(&mut bench, 2);
+    bench.hold(2, &[2]);
     assert_eq!(wear_on_bytes(&mut bench.bytes, &[0, 1, 2, 3], 1), 0x0002_0e02_0000_0002);
     bench.make_all(&["give up 1", "begin 1", "enter 2", "finish 2", "publish 2"]);
     assert_eq!(wear_on_bytes(&mut bench.bytes, &[0, 1, 2, 3], 1), 0x0002_0a00_0000_0000);

@@ -2,7 +2,7 @@
 
 use oracle::Value;
 
-use super::{begun, cells_of, code_at, held_at, hold_by_slot_2, picked};
+use super::{begun, cells_of, code_at, held_at, picked};
 use super::{reads, refuses, set_of, wear, writes};
 use crate::bench::Bench;
 
@@ -25,7 +25,7 @@ fn a_set_may_name_its_cells_in_any_order() {
     assert_eq!(writes(&bench, 1), [(5, 5)]);
 
     let mut bench = begun(&groups);
-    hold_by_slot_2(&mut bench, 0);
+    bench.hold(2, &[0]);
     assert_eq!(wear(&mut bench, &[4, 1, 0, 5], 1), held_at(2));
 
     let mut bench = begun(&[(true, 5), (true, -3)]);
