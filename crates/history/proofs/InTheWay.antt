@@ -100,7 +100,7 @@ module _ (M : Model) (fits : FitsBytes M) (S : State) (right : Right M S) (a : C
   abbrev i : ℕ
   i = pred (a .slot)
 
-  -- and nothing before the obstacle is
+  -- .. and none before it in the log is
   obstacle-first : (reads : List ReadEntry) (y : ReadEntry) → obstacle S i reads ≡ some y → {c : ℕ} → c ≡ y .cell
       → (place : ℕ)
       × (place < length reads)
