@@ -44,7 +44,7 @@ test:
 	python3 tools/edit_logs.py texts
 	@echo "== the second program: its tests"
 	cd oracle && cargo test --release --offline --quiet
-	@echo "== proofs, must-fail edits, the libraries and what is linked with them (some thirteen minutes)"
+	@echo "== proofs, must-fail edits, the libraries and what is linked with them (10 minutes and more)"
 	@BEGAN=$(BEGAN) tools/gate
 
 lib:

@@ -187,8 +187,8 @@ static uint8_t again(struct task *task, uint8_t next)
 }
 
 /* Picks a group. A refusal leaves reads in the log, so the task gives up before
-   it tries again. That helps after two of them: a cell that is held will be
-   free, as the holder has turns too, and one that is newer than this
+   it tries again. That helps after two of the refusals: a cell that is held
+   will be free, as the holder has turns too, and one that is newer than this
    transaction is not newer than the next. Newer is not met here: in the one
    turn between its begin and its pick nobody can both enter and publish. */
 static uint8_t wear(struct task *task)

@@ -1,4 +1,4 @@
--- The whole step: the lowest code that applies is given.
+-- The whole step: the lowest code that applies is given (14 before 10).
 use mathlib.Core.Bool.{not}
 use Prim.Native.Nat.{ℕ, pred}
 use lib.Dec.{leb}
