@@ -26,11 +26,11 @@ use Rattle.rules.proofs.LaidOut.{laid-right, lays-out}
 use Rattle.history.specs.History.{Event, Demand3}
 use Rattle.history.specs.Keeps.{bytesAfter}
 use Rattle.history.specs.AreaHistory.{areaHistory}
-use Rattle.history.specs.InTheWay.{SaysHeld}
+use Rattle.history.specs.InTheWay.{SaysHeld, Says}
 use Rattle.history.proofs.Keeps.{keeps}
 use Rattle.history.proofs.Keeps.OnBytes.{answered-reply, stepped-packed}
 use Rattle.history.proofs.Histories.{histories}
-use Rattle.history.proofs.InTheWay.{silent, Says, tells-who}
+use Rattle.history.proofs.InTheWay.{silent, tells-who}
 use Rattle.history.proofs.Keeps.Lists.{cond-elim}
 use Rattle.crocktendril.specs.Contract.{Stepped}
 use Rattle.crocktendril.specs.Demands.{Demand1, Demand2, Made, inTurn, lastLeft, happened, Demand3AtC}

@@ -1,19 +1,19 @@
 -- Who is in the way: a hold by another slot is a hold of the one that the cell names, since holders are right, and the three refusals that say so have shown it.
-use mathlib.Core.Bool.{Bool, true, false, not}
+use mathlib.Core.Bool.{true, false, not}
 use mathlib.Core.List.{List}
 use mathlib.Core.Logic.{inl, inr}
 use mathlib.Core.Option.{some}
 use mathlib.Core.Path.{_≡_, refl, sym, _∙_, ap}
 use Prim.Native.Nat.{ℕ, zero, suc, pred, _/_, _%_, _<_, _≤_}
 use native.Mathlib.Omega.{arith}
-use lib.Dec.{T, eqb, ltb}
+use lib.Dec.{T, eqb}
 use lib.ListN.{length, getD, List·getD-eq-default}
-use borrow.Author.Tests.{eqb-false, eq-eqb, ltb-true, ltb-false, not-true}
+use borrow.Author.Tests.{eqb-false, eq-eqb, not-true}
 use Rattle.call.specs.declared.Step.{Step}
 use Rattle.call.specs.declared.Step.the-variants.{Read, Lock, Reload}
 use Rattle.call.specs.declared.Decoded.the-variants.{Made}
 use Rattle.call.specs.declared.Reply.{Reply}
-use Rattle.call.specs.Answer.{heldWord, replyCode, replyKind, replyWord}
+use Rattle.call.specs.Answer.{heldWord}
 use Rattle.call.specs.Decode.{decoded}
 use Rattle.call.proofs.Number.{number-back}
 use Rattle.slot.specs.declared.ReadEntry.{ReadEntry}
@@ -27,13 +27,13 @@ use Rattle.rules.specs.Cells.{heldByOther, obstacle}
 use Rattle.rules.specs.StateRight.{holds}
 use Rattle.rules.specs.Outcome.{Outcome, refused, accepted, replyOf}
 use Rattle.rules.specs.Step.{Call, step}
-use Rattle.history.specs.InTheWay.{InTheWay, SaysHeld, TellsWho}
+use Rattle.history.specs.InTheWay.{InTheWay, SaysHeld, Says, TellsWho}
 use Rattle.history.proofs.Cases.{Bare}
 use Rattle.history.proofs.Right.{Right, right-of}
 use Rattle.history.proofs.Move.{Declined, bare-refusal, read-held, lock-held, reload-held, Lawful}
 use Rattle.history.proofs.StepCase.{lawful-case}
 use Rattle.history.proofs.Record.{read-names}
-use Rattle.history.proofs.Keeps.Lists.{first-place}
+use Rattle.history.proofs.Keeps.Lists.{below-or-not, first-place}
 use Rattle.history.proofs.Keeps.Codes.{Coded, acceptance, step-coded}
 
 -- a cell that another slot holds has a holder, which is not the slot itself, and is there
@@ -47,11 +47,9 @@ module _ (S : State) (i c : ℕ) (held : heldByOther i (cellAt S c) ≡ true) wh
   other-holder = eqb-false _ _ (not-true _ (and-right (not (eqb (cellAt S c .holder) 0)) _ held))
 
   pub held-inside : c < cellCount S
-  held-inside = by (ltb c (cellCount S)) refl
-    where
-      by : (b : Bool) → ltb c (cellCount S) ≡ b → c < cellCount S
-      by true e = ltb-true _ _ e
-      by false e = absurd (some-holder (rw (List·getD-eq-default (S .cells) noCell {n = c} (ltb-false _ _ e))))
+  held-inside =
+      below-or-not (c < cellCount S) c (cellCount S) (λ there. there)
+      (λ beyond. absurd (some-holder (rw (List·getD-eq-default (S .cells) noCell beyond))))
 
   module _ (M : Model) (right : Right M S) where
     holding : (h : ℕ) → cellAt S c .holder ≡ h → h ≤ M .slots → (h ≡ 0 → ⊥) → holds (slotAt S (pred h)) c ≡ true
@@ -88,10 +86,6 @@ silent not-11 not-14 =
       lockNext = λ e s. absurd (not-11 e);
       reloadFirst = λ e s. absurd (not-11 e);
     }
-
--- what a reply says
-abbrev pub Says : Model → State → Call → Reply → Type 0
-Says M S a r = SaysHeld M S a (replyCode r) (replyKind r) (replyWord r)
 
 bare-silent : {M : Model} {S : State} {a : Call} (r : Reply) → Bare r → Says M S a r
 bare-silent r k = silent (λ e. rw e at (k .1)) (λ e. rw e at (k .2))

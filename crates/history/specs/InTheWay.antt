@@ -4,6 +4,7 @@ use mathlib.Core.Logic.{_⊎_}
 use mathlib.Core.Path.{_≡_}
 use Prim.Native.Nat.{ℕ, pred, _/_, _%_, _<_, _≤_}
 use lib.ListN.{length, getD}
+use Rattle.call.specs.declared.Reply.{Reply}
 use Rattle.call.specs.Answer.{replyCode, replyKind, replyWord}
 use Rattle.slot.specs.Layout.{noRead, noWrite}
 use Rattle.rules.specs.Model.{Model}
@@ -41,8 +42,10 @@ pub record SaysHeld (M : Model) (S : State) (a : Call) (code kind word : ℕ) : 
       × (getD reads place noRead .cell ≡ word / 256)
       × ((earlier : ℕ) → earlier < place → heldByOther (pred (a .slot)) (cellAt S (getD reads earlier noRead .cell)) ≡ false)
 
+-- .. of a reply
+abbrev pub Says : Model → State → Call → Reply → Type 0
+Says M S a r = SaysHeld M S a (replyCode r) (replyKind r) (replyWord r)
+
 -- .. from any well-formed state, and to a call of any five numbers
 pub record TellsWho (M : Model) : Type 0 where
-  pub tells : (S : State) (a : Call) → stateRight M S ≡ true
-      → let r = replyOf (step M S a) in
-      SaysHeld M S a (replyCode r) (replyKind r) (replyWord r)
+  pub tells : (S : State) (a : Call) → stateRight M S ≡ true → Says M S a (replyOf (step M S a))
