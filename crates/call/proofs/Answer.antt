@@ -14,7 +14,7 @@ use Rattle.value.specs.declared.CellValue.the-variants as value
 use Rattle.value.specs.Value.{kindOf}
 use Rattle.call.proofs.Reply.{the-type}
 use Rattle.call.specs.declared.Reply.{Reply}
-use Rattle.call.specs.declared.Reply.the-variants.{Done, Verdict, Value, NotWellFormed, NoSuchStep, NoSuchSlot, NotAllowed, NoSuchCell, IllegalValue, OtherKind, NotInLog, LogFull, ReadHeld, ReadNewer, LockHeld, ReloadHeld, LastStamp, Aborted}
+use Rattle.call.specs.declared.Reply.the-variants.{Done, Verdict, Value, NotWellFormed, NoSuchStep, NoSuchSlot, NotAllowed, MarkedWritten, NoSuchCell, IllegalValue, OtherKind, NotInLog, LogFull, ReadHeld, ReadNewer, LockHeld, ReloadHeld, LastStamp, Aborted}
 use Rattle.call.specs.Answer.{replyCode, replyKind, replyWord, replyNumber, SaysWho}
 
 -- ---- the cases, gone through once
@@ -28,7 +28,7 @@ data Carries : Reply → Type 0 where
   reload-holder : (cell holder : ℕ) → Carries (ReloadHeld cell holder)
   nothing : {r : Reply} → replyKind r ≡ 0 → replyWord r ≡ 0 → Carries r
 
-cases : (r : Reply) → (replyCode r ≤ 14) × Carries r
+cases : (r : Reply) → (replyCode r ≤ 15) × Carries r
 cases Done = (lit≤ tt, nothing refl refl)
 cases (Verdict b) = (lit≤ tt, truth b)
 cases (Value v) = (lit≤ tt, cell-value v)
@@ -36,6 +36,7 @@ cases NotWellFormed = (lit≤ tt, nothing refl refl)
 cases NoSuchStep = (lit≤ tt, nothing refl refl)
 cases NoSuchSlot = (lit≤ tt, nothing refl refl)
 cases NotAllowed = (lit≤ tt, nothing refl refl)
+cases MarkedWritten = (lit≤ tt, nothing refl refl)
 cases NoSuchCell = (lit≤ tt, nothing refl refl)
 cases IllegalValue = (lit≤ tt, nothing refl refl)
 cases OtherKind = (lit≤ tt, nothing refl refl)
@@ -48,8 +49,8 @@ cases (ReloadHeld cell holder) = (lit≤ tt, reload-holder cell holder)
 cases LastStamp = (lit≤ tt, nothing refl refl)
 cases Aborted = (lit≤ tt, nothing refl refl)
 
--- The codes are 0 to 14.
-pub code-bound : (r : Reply) → replyCode r ≤ 14
+-- The codes are 0 to 15.
+pub code-bound : (r : Reply) → replyCode r ≤ 15
 code-bound r = cases r .0
 
 -- A refusal that doesn't say who is in the way, and the outcome 13, has kind and word zero.
@@ -64,9 +65,9 @@ refusal-bare r = by (cases r .1)
     by (reload-holder cell holder) h who = absurd (who (inl refl))
     by (nothing k w) h who = (k, w)
 
--- the last arm of a `match` that has arms for what is carried: `Verdict`, `Value`, `ReadHeld`, `LockHeld` and `ReloadHeld`, variants 1, 2, 12, 14 and 15
+-- the last arm of a `match` that has arms for what is carried: `Verdict`, `Value`, `ReadHeld`, `LockHeld` and `ReloadHeld`, variants 1, 2, 13, 15 and 16
 abbrev others : List ℕ
-others = 0 ∷ 3 ∷ 4 ∷ 5 ∷ 6 ∷ 7 ∷ 8 ∷ 9 ∷ 10 ∷ 11 ∷ 13 ∷ 16 ∷ 17 ∷ []
+others = 0 ∷ 3 ∷ 4 ∷ 5 ∷ 6 ∷ 7 ∷ 8 ∷ 9 ∷ 10 ∷ 11 ∷ 12 ∷ 14 ∷ 17 ∷ 18 ∷ []
 
 pub last-arm : (r : Reply) → OneOf others (tagOf the-type r) → (0 ≡ replyKind r) × (0 ≡ replyWord r)
 last-arm r = by (cases r .1)
@@ -74,9 +75,9 @@ last-arm r = by (cases r .1)
     by : {r : Reply} → Carries r → OneOf others (tagOf the-type r) → (0 ≡ replyKind r) × (0 ≡ replyWord r)
     by (truth b) h = absurd (miss others 1 tt h)
     by (cell-value v) h = absurd (miss others 2 tt h)
-    by (read-holder holder) h = absurd (miss others 12 tt h)
-    by (lock-holder cell holder) h = absurd (miss others 14 tt h)
-    by (reload-holder cell holder) h = absurd (miss others 15 tt h)
+    by (read-holder holder) h = absurd (miss others 13 tt h)
+    by (lock-holder cell holder) h = absurd (miss others 15 tt h)
+    by (reload-holder cell holder) h = absurd (miss others 16 tt h)
     by (nothing k w) h = (cc, cc)
 
 -- ---- the number

@@ -5,7 +5,7 @@ use mathlib.Core.Path.{_≡_}
 use Prim.Native.Nat.{ℕ, _+_, _*_, _^_}
 use Rattle.value.specs.Value.{kindOf, wordOf}
 use Rattle.call.specs.declared.Reply.{Reply}
-use Rattle.call.specs.declared.Reply.the-variants.{Done, Verdict, Value, NotWellFormed, NoSuchStep, NoSuchSlot, NotAllowed, NoSuchCell, IllegalValue, OtherKind, NotInLog, LogFull, ReadHeld, ReadNewer, LockHeld, ReloadHeld, LastStamp, Aborted}
+use Rattle.call.specs.declared.Reply.the-variants.{Done, Verdict, Value, NotWellFormed, NoSuchStep, NoSuchSlot, NotAllowed, MarkedWritten, NoSuchCell, IllegalValue, OtherKind, NotInLog, LogFull, ReadHeld, ReadNewer, LockHeld, ReloadHeld, LastStamp, Aborted}
 
 abbrev pub replyCode : Reply → ℕ
 replyCode Done = 0
@@ -15,6 +15,7 @@ replyCode NotWellFormed = 1
 replyCode NoSuchStep = 2
 replyCode NoSuchSlot = 3
 replyCode NotAllowed = 4
+replyCode MarkedWritten = 15
 replyCode NoSuchCell = 5
 replyCode IllegalValue = 6
 replyCode OtherKind = 7
@@ -36,6 +37,7 @@ replyKind NotWellFormed = 0
 replyKind NoSuchStep = 0
 replyKind NoSuchSlot = 0
 replyKind NotAllowed = 0
+replyKind MarkedWritten = 0
 replyKind NoSuchCell = 0
 replyKind IllegalValue = 0
 replyKind OtherKind = 0
@@ -61,6 +63,7 @@ replyWord NotWellFormed = 0
 replyWord NoSuchStep = 0
 replyWord NoSuchSlot = 0
 replyWord NotAllowed = 0
+replyWord MarkedWritten = 0
 replyWord NoSuchCell = 0
 replyWord IllegalValue = 0
 replyWord OtherKind = 0

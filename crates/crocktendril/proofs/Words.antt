@@ -71,7 +71,7 @@ move-word {S = S} (reread-done {c = c} e) = value-word (cellAt S c .kind) (e .wo
 move-word (updated x fit found) = lit< tt
 move-word (ask-done e) = bit-word (e .mark)
 move-word (reloading x clear below) = lit< tt
-move-word (ignored x m) = lit< tt
+move-word (ignored x free m) = lit< tt
 move-word nothing-to-ignore = lit< tt
 move-word (aborted x m) = lit< tt
 move-word (committed x m) = lit< tt

@@ -208,7 +208,7 @@ module _ (M : Model) (start : State) (L : List Commit) (R : List SharedRead) (S 
       let entries = map (reloaded S) reads in
       let t = stamped-turn (begun M start) M (logAt L) S (along .inv) i inside begins entries writes (owed (twilight ignoring begins commit reads writes) x (λ k c o. o)) in
       turns _ _ _ t (reloaded-reads ignoring begins commit reads writes entries x clear) (fresh-stamp false begins entries writes)
-  advance (ignored {ignoring = ignoring} {start = begins} {commit = commit} {reads = reads} {writes = writes} x m) =
+  advance (ignored {ignoring = ignoring} {start = begins} {commit = commit} {reads = reads} {writes = writes} x free m) =
       let t = twilight-turn (begun M start) M (logAt L) S (along .inv) i inside ignoring true begins commit reads writes writes x (λ d. refl) in
       turns _ _ _ t (known _ _ (twilight ignoring begins commit reads writes) _ x t) (subst (Fresh M start L) x (along .new-stamps i))
   advance nothing-to-ignore = λ right kinds. stays

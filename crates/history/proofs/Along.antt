@@ -6,19 +6,22 @@ use Prim.Native.Nat.{ℕ, pred, _<_, _≤_}
 use native.Mathlib.Omega.{arith}
 use lib.Dec.{eqb}
 use lib.ListN.{length}
-use borrow.Author.Tests.{eq-eqb, ne-eqb}
+use borrow.Author.Tests.{eq-eqb, ne-eqb, not-true}
 use Rattle.slot.specs.declared.ReadEntry.{ReadEntry}
 use Rattle.slot.specs.declared.WriteEntry.{WriteEntry}
 use Rattle.rules.specs.declared.Cell.{Cell}
-use Rattle.slot.specs.Logic.{_and_, all, pairwise, All}
+use Rattle.slot.specs.Logic.{_and_, _or_, any, all, pairwise, All}
 use Rattle.rules.specs.Model.{Model}
 use Rattle.rules.specs.State.{State, Slot, idle, opened, locking, twilight, publishing, cellAt, slotAt, turn, commitOf}
-use Rattle.slot.specs.Logs.{someMarked}
+use Rattle.slot.specs.Logs.{someMarked, markedWritten}
+use Rattle.rules.specs.LogsRight.{noUpdateLost}
+use Rattle.rules.specs.StateRight.{slotRight}
 use Rattle.rules.specs.Steps.{publishingOrIdle}
-use Rattle.slot.proofs.Logic.{and-intro}
+use Rattle.slot.proofs.Logic.{and-intro, or-false, or-right}
 use Rattle.history.specs.History.{Commit, committedBy, SharedRead, logAt}
 use Rattle.history.proofs.Right.{Right}
-use Rattle.history.proofs.Keeps.Lists.{pairwise-snoc}
+use Rattle.history.proofs.Keeps.Lists.{or-neither, pairwise-snoc}
+use Rattle.history.proofs.Keeps.Slots.{slot-holds}
 use Rattle.history.proofs.Invariant.{Settled, ReadsKnown, Inv, Stable, turned, All-map, All-snoc}
 use Rattle.history.proofs.Turn.{Turn, turn-stable, turn-inv, unmarked-stays}
 use Rattle.history.proofs.Commit.{owing-case, between, other-stamp, commit-stable, commit-inv}
@@ -45,6 +48,20 @@ unfolding _and_
 no-marks true true p off = off
 no-marks true false p off = p
 no-marks false ignoring p off = refl
+
+-- without a mark no marked cell is in the write log, and with the flag neither
+no-mark-written : (reads : List ReadEntry) (writes : List WriteEntry) → someMarked reads ≡ false → markedWritten reads writes ≡ false
+unfolding someMarked markedWritten any _and_
+no-mark-written [] writes p = refl
+no-mark-written (e ∷ reads) writes p =
+    let (off, rest) = or-neither (e .mark) (any (λ (f : ReadEntry). f .mark) reads) p in
+    rw (off, no-mark-written reads writes rest) (or-false false)
+
+none-lost : (ignoring : Bool) (reads : List ReadEntry) (writes : List WriteEntry) → (someMarked reads and not ignoring) ≡ false
+    → noUpdateLost ignoring reads writes ≡ true → markedWritten reads writes ≡ false
+unfolding noUpdateLost
+none-lost true reads writes p kept = not-true _ (or-right false _ refl kept)
+none-lost false reads writes p kept = no-mark-written reads writes (no-marks (someMarked reads) false p refl)
 
 module _ (M : Model) (start : State) where
   abbrev pub begun : ℕ → ℕ
@@ -76,6 +93,8 @@ module _ (M : Model) (start : State) where
     pub entries : All (EntriesHold L S) L
     -- without the flag there was no mark
     pub flagged : All (λ (x : Commit). x .ignoring ≡ false → someMarked (x .reads) ≡ false) L
+    -- with it or without it, no marked cell was in the write log
+    pub clear : All (λ (x : Commit). markedWritten (x .reads) (x .writes) ≡ false) L
 
   -- the reads and entries so far stay settled
   reads-held : (L L′ : List Commit) (S T : State) → Stable begun (logAt L) S (logAt L′) T → (R : List SharedRead) → All (ReadHolds L S) R → All (ReadHolds L′ T) R
@@ -104,6 +123,7 @@ module _ (M : Model) (start : State) where
           reads = reads-held L L S T stable R (along .reads);
           entries = entries-held L L S T stable L (along .entries);
           flagged = along .flagged;
+          clear = along .clear;
         }
 
     module _ (clock : ℕ) (cells : List Cell) (x : Slot) (t : Turn begun M (logAt L) S i clock cells x) where
@@ -127,6 +147,7 @@ module _ (M : Model) (start : State) where
         reads = All-snoc (ReadHolds L S) R r (along .reads) known;
         entries = along .entries;
         flagged = along .flagged;
+        clear = along .clear;
       }
 
   -- a committing finish
@@ -156,6 +177,11 @@ module _ (M : Model) (start : State) where
     stamp-given =
         between begun M (logAt L) (logAt (L ++ (made ∷ []))) S (along .inv) i inside ignoring first commit reads writes x
         (log-new L made (fresh .1)) (log-old L made) .1
+
+    kept : noUpdateLost ignoring reads writes ≡ true
+    kept =
+        slot-holds (S .cells) (S .clock) (twilight ignoring first commit reads writes)
+        (subst (λ (y : Slot). slotRight (S .cells) (S .clock) y ≡ true) x (along .inv .right .slot i)) .4
 
     -- another slot's new stamp is new still
     fresh-still : (s : ℕ) → (s ≡ i → ⊥) → Fresh (L ++ (made ∷ [])) (slotAt S s)
@@ -188,4 +214,5 @@ module _ (M : Model) (start : State) where
               (unmarked-stays begun (logAt L) (logAt (L ++ (made ∷ []))) S next stable (pred commit) reads
               (subst (ReadsKnown begun (logAt L) S) x (along .inv .slot-reads i)));
           flagged = All-snoc (λ (x : Commit). x .ignoring ≡ false → someMarked (x .reads) ≡ false) L made (along .flagged) (no-marks (someMarked reads) ignoring unmarked);
+          clear = All-snoc (λ (x : Commit). markedWritten (x .reads) (x .writes) ≡ false) L made (along .clear) (none-lost ignoring reads writes unmarked kept);
         }

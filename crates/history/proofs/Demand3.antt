@@ -9,14 +9,15 @@ use lib.ListN.{length, List·getD-eq-default}
 use borrow.Author.Tests.{ltb-true, ltb-false}
 use Rattle.call.proofs.Number.{number-back}
 use Rattle.slot.specs.declared.ReadEntry.{ReadEntry}
-use Rattle.slot.specs.Logic.{any, pairwise, All}
+use Rattle.slot.specs.declared.WriteEntry.{WriteEntry}
+use Rattle.slot.specs.Logic.{_and_, any, pairwise, All}
 use Rattle.rules.specs.Model.{Model}
 use Rattle.rules.specs.State.{State, Slot, idle, opened, locking, twilight, publishing, cellCount, cellAt, slotAt, isPublishing}
-use Rattle.slot.specs.Logs.{writesCell, someMarked}
+use Rattle.slot.specs.Logs.{writesCell, someMarked, markedWritten}
 use Rattle.rules.specs.StateRight.{stateAtRest, isIdle}
 use Rattle.rules.specs.Outcome.{replyOf, after}
 use Rattle.rules.specs.Step.{Call, step}
-use Rattle.slot.proofs.Logic.{and-left, and-right, all-at}
+use Rattle.slot.proofs.Logic.{and-left, and-right, and-true, all-at}
 use Rattle.history.specs.History.{Event, history, final, Commit, commits, SharedRead, sharedReads, logAt, upTo, replay, publishes, Demand3}
 use Rattle.history.proofs.StepCase.{step-case}
 use Rattle.history.proofs.Right.{Right, right-of}
@@ -35,6 +36,15 @@ no-mark : (reads : List ReadEntry) → someMarked reads ≡ false → All (λ (e
 unfolding someMarked any
 no-mark [] p = tt
 no-mark (e ∷ reads) p = let both = or-neither (e .mark) (any (λ (f : ReadEntry). f .mark) reads) p in (both .0, no-mark reads (both .1))
+
+-- where no marked cell is in the write log, a read entry whose cell is there is unmarked
+written-unmarked : (reads : List ReadEntry) (writes : List WriteEntry) → markedWritten reads writes ≡ false
+    → All (λ (e : ReadEntry). writesCell writes (e .cell) ≡ true → e .mark ≡ false) reads
+unfolding markedWritten any
+written-unmarked [] writes p = tt
+written-unmarked (e ∷ reads) writes p =
+    let (here, rest) = or-neither (e .mark and writesCell writes (e .cell)) (markedWritten reads writes) p in
+    (λ w. sym (rw w (and-true (e .mark))) ∙ here, written-unmarked reads writes rest)
 
 owes-publishing : (x : Slot) (k c : ℕ) → Owes x k c → isPublishing x ≡ true
 owes-publishing idle k c o = absurd o
@@ -57,6 +67,16 @@ module _ (M : Model) (start : State) (events : List Event) (T : State) (along : 
       All-map (λ (e : ReadEntry). (e .mark ≡ false → Settled (begun M start) (logAt (commits events)) T (pred (x .stamp)) (e .cell) (e .word)) × (e .mark ≡ false))
       (λ (e : ReadEntry). e .word ≡ replay start events (pred (x .stamp)) (e .cell)) (λ e both. sym (both .0 (both .1) .replayed)) (x .reads)
       (All-both _ (λ (e : ReadEntry). e .mark ≡ false) (x .reads) (known .0) (no-mark (x .reads) (known .1 off)))
+
+  update-had : (x : Commit) → EntriesHold M start (commits events) T x × (markedWritten (x .reads) (x .writes) ≡ false)
+      → All (λ (e : ReadEntry). writesCell (x .writes) (e .cell) ≡ true → e .word ≡ replay start events (pred (x .stamp)) (e .cell)) (x .reads)
+  update-had x known =
+      All-map
+      (λ (e : ReadEntry). (e .mark ≡ false → Settled (begun M start) (logAt (commits events)) T (pred (x .stamp)) (e .cell) (e .word))
+      × (writesCell (x .writes) (e .cell) ≡ true → e .mark ≡ false))
+      (λ (e : ReadEntry). writesCell (x .writes) (e .cell) ≡ true → e .word ≡ replay start events (pred (x .stamp)) (e .cell))
+      (λ e both written. sym (both .0 (both .1 written) .replayed)) (x .reads)
+      (All-both _ (λ (e : ReadEntry). writesCell (x .writes) (e .cell) ≡ true → e .mark ≡ false) (x .reads) (known .0) (written-unmarked (x .reads) (x .writes) (known .1)))
 
   pub demand3-of : Demand3 start events T
   demand3-of =
@@ -81,6 +101,12 @@ module _ (M : Model) (start : State) (events : List Event) (T : State) (along : 
             (λ (x : Commit). x .ignoring ≡ false → All (λ (e : ReadEntry). e .word ≡ replay start events (pred (x .stamp)) (e .cell)) (x .reads))
             commit-had (commits events)
             (All-both (EntriesHold M start (commits events) T) (λ (x : Commit). x .ignoring ≡ false → someMarked (x .reads) ≡ false) (commits events) (along .entries) (along .flagged));
+        updatesHad =
+            All-map (λ (x : Commit). EntriesHold M start (commits events) T x × (markedWritten (x .reads) (x .writes) ≡ false))
+            (λ (x : Commit).
+            All (λ (e : ReadEntry). writesCell (x .writes) (e .cell) ≡ true → e .word ≡ replay start events (pred (x .stamp)) (e .cell)) (x .reads))
+            update-had (commits events)
+            (All-both (EntriesHold M start (commits events) T) (λ (x : Commit). markedWritten (x .reads) (x .writes) ≡ false) (commits events) (along .entries) (along .clear));
       }
 
 -- at rest nothing has happened yet
@@ -133,6 +159,7 @@ module _ (M : Model) (S : State) (rest : stateAtRest M S ≡ true) where
         reads = tt;
         entries = tt;
         flagged = tt;
+        clear = tt;
       }
 
 module _ (M : Model) where

@@ -14,11 +14,11 @@ use Rattle.value.specs.Value.{kindOf, wordOf}
 use Rattle.call.specs.declared.Step.{Step}
 use Rattle.call.specs.declared.Step.the-variants.{Begin, Read, Write, Close, Lock, Enter, Reread, Update, Ask, Reload, Ignore, Finish, Publish, GiveUp}
 use Rattle.call.specs.declared.Reply.{Reply}
-use Rattle.call.specs.declared.Reply.the-variants.{Done, Verdict, NotAllowed, NoSuchCell, IllegalValue, OtherKind, LogFull, ReadHeld, ReadNewer, LockHeld, ReloadHeld, LastStamp, Aborted}
+use Rattle.call.specs.declared.Reply.the-variants.{Done, Verdict, NotAllowed, MarkedWritten, NoSuchCell, IllegalValue, OtherKind, LogFull, ReadHeld, ReadNewer, LockHeld, ReloadHeld, LastStamp, Aborted}
 use Rattle.slot.specs.declared.ReadEntry.{ReadEntry}
 use Rattle.slot.specs.declared.WriteEntry.{WriteEntry}
 use Rattle.slot.specs.Layout.{readCapacity, writeCapacity, noWrite}
-use Rattle.slot.specs.Logs.{readEntry, writeEntry, writesCell, putWrite, someMarked}
+use Rattle.slot.specs.Logs.{readEntry, writeEntry, writesCell, putWrite, someMarked, markedWritten}
 use Rattle.slot.specs.Logic.{_and_}
 use Rattle.rules.specs.Model.{Model, lastStamp}
 use Rattle.rules.specs.State.{State, idle, opened, locking, twilight, publishing, cellCount, cellAt, slotAt, turn}
@@ -72,7 +72,7 @@ pub data Move (M : Model) (S : State) (i : ℕ) : Step → Reply → State → T
       → slotAt S i ≡ twilight ignoring start commit reads writes → obstacle S i reads ≡ none → (S .clock ≡ lastStamp M → ⊥)
       → Move M S i Reload Done (turn S i (suc (S .clock)) (S .cells) (twilight false start (suc (S .clock)) (map (reloaded S) reads) writes))
   ignored : {ignoring : Bool} {start commit : ℕ} {reads : List ReadEntry} {writes : List WriteEntry}
-      → slotAt S i ≡ twilight ignoring start commit reads writes → someMarked reads ≡ true
+      → slotAt S i ≡ twilight ignoring start commit reads writes → markedWritten reads writes ≡ false → someMarked reads ≡ true
       → Move M S i Ignore Done (turn S i (S .clock) (S .cells) (twilight true start commit reads writes))
   nothing-to-ignore : Move M S i Ignore Done S
   aborted : {start commit : ℕ} {ignoring : Bool} {reads : List ReadEntry} {writes : List WriteEntry}
@@ -167,7 +167,8 @@ module _ (M : Model) (S : State) (i : ℕ) where
       reloading x clear below
   lawful Ignore =
       twilight-case (Lawful M S i Ignore) (λ r k. bare-refusal k) (slotAt S i) _ λ ignoring start commit reads writes x.
-      cond-case (Lawful M S i Ignore) (λ r k. bare-refusal k) (someMarked reads) _ _ (λ m. ignored x m) (λ m. nothing-to-ignore)
+      refuse-case (Lawful M S i Ignore) (λ r k. bare-refusal k) (markedWritten reads writes) MarkedWritten bare _ λ free.
+      cond-case (Lawful M S i Ignore) (λ r k. bare-refusal k) (someMarked reads) _ _ (λ m. ignored x free m) (λ m. nothing-to-ignore)
   lawful Finish =
       twilight-case (Lawful M S i Finish) (λ r k. bare-refusal k) (slotAt S i) _ λ ignoring start commit reads writes x.
       cond-case (Lawful M S i Finish) (λ r k. bare-refusal k) (someMarked reads and not ignoring) _ _ (λ m. aborted x m) (λ m. committed x m)

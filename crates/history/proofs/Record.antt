@@ -46,7 +46,7 @@ made (reread-done e) = []
 made (updated x fit found) = []
 made (ask-done e) = []
 made (reloading x clear below) = []
-made (ignored x m) = []
+made (ignored x free m) = []
 made nothing-to-ignore = []
 made (aborted x m) = []
 made (committed {ignoring = ignoring} {start = start} {commit = commit} {reads = reads} {writes = writes} x m) =
@@ -68,7 +68,7 @@ seen (reread-done e) = []
 seen (updated x fit found) = []
 seen (ask-done e) = []
 seen (reloading x clear below) = []
-seen (ignored x m) = []
+seen (ignored x free m) = []
 seen nothing-to-ignore = []
 seen (aborted x m) = []
 seen (committed x m) = []
@@ -133,7 +133,7 @@ module _ (M : Model) (S : State) (right : Right M S) (a : Call) where
   records-commit {r = q} (updated x fit found) e = silent q 8 e (λ z. omega arith)
   records-commit {r = q} (ask-done f) e = silent q 9 e (λ z. omega arith)
   records-commit {r = q} (reloading x clear below) e = silent q 10 e (λ z. omega arith)
-  records-commit {r = q} (ignored x m) e = silent q 11 e (λ z. omega arith)
+  records-commit {r = q} (ignored x free m) e = silent q 11 e (λ z. omega arith)
   records-commit {r = q} nothing-to-ignore e = silent q 11 e (λ z. omega arith)
   records-commit (aborted x m) e = no-commit (event Aborted) (other-code (event Aborted) 12 (λ z. omega arith))
   records-commit (committed x m) e = rw (e, x)
@@ -174,7 +174,7 @@ module _ (M : Model) (S : State) (right : Right M S) (a : Call) where
   records-read {r = r} (updated x fit found) p e = unread r 8 e (λ z. omega arith)
   records-read {r = r} (ask-done f) p e = unread r 9 e (λ z. omega arith)
   records-read {r = r} (reloading x clear below) p e = unread r 10 e (λ z. omega arith)
-  records-read {r = r} (ignored x m) p e = unread r 11 e (λ z. omega arith)
+  records-read {r = r} (ignored x free m) p e = unread r 11 e (λ z. omega arith)
   records-read {r = r} nothing-to-ignore p e = unread r 11 e (λ z. omega arith)
   records-read {r = r} (aborted x m) p e = unread r 12 e (λ z. omega arith)
   records-read {r = r} (committed x m) p e = unread r 12 e (λ z. omega arith)

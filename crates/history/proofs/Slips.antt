@@ -7,7 +7,7 @@ use Rattle.rules.specs.Step.{step}
 use Rattle.rules.specs.SheetS.{beforeS}
 use Rattle.rules.proofs.Open.{computed}
 use Rattle.history.specs.History.{history, final, commits, sharedReads, logAt, upTo, Demand3}
-use Rattle.history.specs.Slips.{slip, closeMarks, enterStamps, writerBetween, reloadKeeps, reloadLater, readHeld, readUnderHold, publishFrees, readUnpublished, publishPretends, writeAlone}
+use Rattle.history.specs.Slips.{slip, closeMarks, enterStamps, writerBetween, reloadKeeps, reloadLater, readHeld, readUnderHold, publishFrees, readUnpublished, publishPretends, writeAlone, ignoreLoses, totaliser}
 
 pub marks-at-close : Demand3 beforeS (history (slip 4 closeMarks (slip 6 enterStamps (step controller))) beforeS writerBetween)
     (final (slip 4 closeMarks (slip 6 enterStamps (step controller))) beforeS writerBetween) → ⊥
@@ -33,3 +33,9 @@ pub only-pretended : Demand3 beforeS (history (slip 13 publishPretends (step con
     (final (slip 13 publishPretends (step controller)) beforeS writeAlone) → ⊥
 unfolding computed slip publishPretends writeAlone history final commits logAt upTo
 only-pretended d = let wrong : _≡_ {A = ℕ} 5 9 = d .cellsHold 0 (omega arith) refl in omega arith
+
+-- slot 1 read 5 and wrote it on, where the replay had slot 2's 15
+pub update-dropped : Demand3 beforeS (history (slip 11 ignoreLoses (step controller)) beforeS totaliser)
+    (final (slip 11 ignoreLoses (step controller)) beforeS totaliser) → ⊥
+unfolding computed slip ignoreLoses totaliser history final commits logAt upTo
+update-dropped d = let wrong : _≡_ {A = ℕ} 5 15 = d .updatesHad .1 .0 .0 refl in omega arith

@@ -1,6 +1,6 @@
 -- The slips that look right, and half of a wrong core, as steps that differ from document 01's in a row or two, and for each a history that shows it. The wrong cores, whole,
 -- are in `tested/specs/WrongCores.antt`.
-use mathlib.Core.Bool.{false, not, cond}
+use mathlib.Core.Bool.{true, false, not, cond}
 use mathlib.Core.List.{List, [], _∷_, _++_, map}
 use Prim.Native.Nat.{ℕ, suc, pred}
 use lib.Dec.{eqb, ltb, leb}
@@ -139,5 +139,36 @@ publishPretends S a =
 unfoldable pub writeAlone : List Call
 writeAlone =
     alone 1 1 ∷ call 3 1 0 2 9 ∷ alone 4 1 ∷ alone 5 1 ∷ alone 6 1 ∷ alone 12 1 ∷ alone 13 1 ∷ []
+
+-- "Ignoring loses updates": the ignoring of a mark on a cell that the slot also writes.
+unfoldable pub ignoreLoses : State → Call → Outcome
+ignoreLoses S a =
+    let i = pred (a .slot) in
+    whenTwilight (slotAt S i) λ ignoring start commit reads writes.
+    cond (someMarked reads)
+    (accepted Done (turn S i (S .clock) (S .cells) (twilight true start commit reads writes)))
+    (accepted Done S)
+
+-- "A totaliser ignored a mark and dropped a colleague's increment." Slots 1 and 2 read the total in cell 0; slot 2 puts in its 10, and then slot 1 its 1, and ignores its mark.
+unfoldable pub totaliser : List Call
+totaliser =
+    alone 1 1
+    ∷ call 2 1 0 0 0
+    ∷ alone 1 2
+    ∷ call 2 2 0 0 0
+    ∷ call 3 2 0 2 15
+    ∷ alone 4 2
+    ∷ alone 5 2
+    ∷ alone 6 2
+    ∷ alone 12 2
+    ∷ alone 13 2
+    ∷ call 3 1 0 2 6
+    ∷ alone 4 1
+    ∷ alone 5 1
+    ∷ alone 6 1
+    ∷ alone 11 1
+    ∷ alone 12 1
+    ∷ alone 13 1
+    ∷ []
 
 -- "Treating one's own hold as a conflict" breaks no sentence of demand 3, since it only marks and refuses more: E12 and the exact step of demand 2 shut it out.

@@ -93,7 +93,7 @@ module _ (M : Model) (set : List ℕ) (g : ℕ) (S : State) where
   move-stays i (updated x fit found) p = absurd (false≢true p)
   move-stays i (ask-done e) p = λ j l. l
   move-stays i (reloading x clear below) p = absurd (false≢true p)
-  move-stays i (ignored x m) p = turned i _ (rw x (λ l. l))
+  move-stays i (ignored x free m) p = turned i _ (rw x (λ l. l))
   move-stays i nothing-to-ignore p = λ j l. l
   move-stays i (aborted x m) p = absurd (false≢true p)
   move-stays i (committed x m) p = absurd (false≢true p)

@@ -41,7 +41,7 @@ module _ (begun : ℕ → ℕ) (M : Model) (logs : ℕ → List WriteEntry) (S :
   move-rises (updated x fit found) = λ c. omega arith
   move-rises (ask-done e) = λ c. omega arith
   move-rises (reloading x clear below) = λ c. omega arith
-  move-rises (ignored x m) = λ c. omega arith
+  move-rises (ignored x free m) = λ c. omega arith
   move-rises nothing-to-ignore = λ c. omega arith
   move-rises (aborted x m) = λ c. let kept = free-data begun M logs S inv i inside c .1 in omega arith
   move-rises (committed x m) = λ c. omega arith

@@ -11,14 +11,14 @@ use Rattle.value.specs.Legal.{legalWord}
 use Rattle.value.specs.Value.{valueOf, parsed}
 use Rattle.value.proofs.RoundTrip.{kind-back, word-back}
 use Rattle.call.specs.declared.Reply.{Reply}
-use Rattle.call.specs.declared.Reply.the-variants.{Verdict, NotWellFormed, NoSuchSlot, NotAllowed, NoSuchCell, IllegalValue, NotInLog, OtherKind, LogFull, ReadHeld, ReadNewer, LockHeld, LastStamp}
+use Rattle.call.specs.declared.Reply.the-variants.{Verdict, NotWellFormed, NoSuchSlot, NotAllowed, MarkedWritten, NoSuchCell, IllegalValue, NotInLog, OtherKind, LogFull, ReadHeld, ReadNewer, LockHeld, LastStamp}
 use Rattle.call.specs.Answer.{replyCode}
 use Rattle.call.specs.Decode.{decoded}
 use Rattle.slot.specs.declared.ReadEntry.{ReadEntry}
 use Rattle.slot.specs.declared.WriteEntry.{WriteEntry}
 use Rattle.slot.specs.Layout.{readCapacity, writeCapacity, noWrite}
 use Rattle.slot.specs.Logic.{_and_, _or_, any, first, pairwise, all}
-use Rattle.slot.specs.Logs.{readEntry, writeEntry, readsCell, writesCell, someMarked}
+use Rattle.slot.specs.Logs.{readEntry, writeEntry, readsCell, writesCell, someMarked, markedWritten}
 use Rattle.slot.proofs.Logic.{and-left, and-right}
 use Rattle.slot.proofs.Search.{of-none, of-some}
 use Rattle.rules.specs.Model.{Model, lastStamp}
@@ -33,12 +33,12 @@ use Rattle.rules.specs.Area.{answered, stepOnBytes}
 use Rattle.rules.specs.Run.{call}
 use Rattle.rules.specs.Allowed.{Row, _when_, rowNumber, allowed}
 use Rattle.rules.proofs.Cases.{cond-case, found-case, log-case, idle-case, open-case, locking-case, twilight-case, publishing-case, uncommitted-case}
-use Rattle.rules.specs.Codes.{codeTable, stepOutside, slotOutside, notAllowed, cellOutside, valueIllegal, kindDiffers, notInLog, logFull, readHeld, readNewer, cellHeld, stampsSpent, outcomeCode, Ending, refusal, outcome, endingCode, firstOf, tableEnding}
+use Rattle.rules.specs.Codes.{codeTable, stepOutside, slotOutside, notAllowed, updateLost, cellOutside, valueIllegal, kindDiffers, notInLog, logFull, readHeld, readNewer, cellHeld, stampsSpent, outcomeCode, Ending, refusal, outcome, endingCode, firstOf, tableEnding}
 use Rattle.rules.specs.LowestCode.{ending, height, lowerApplies, LowestCode}
 
 -- opens the table and the way from a call to its row
 unfoldable table : ℕ
-unfolding step stepOf decoded tableEnding firstOf stepOutside slotOutside notAllowed allowed cellOutside valueIllegal kindDiffers notInLog logFull readHeld readNewer cellHeld stampsSpent outcomeCode any first readsCell writesCell readEntry writeEntry _and_ _or_
+unfolding step stepOf decoded tableEnding firstOf stepOutside slotOutside notAllowed allowed updateLost cellOutside valueIllegal kindDiffers notInLog logFull readHeld readNewer cellHeld stampsSpent outcomeCode any first readsCell writesCell readEntry writeEntry _and_ _or_
 table = 0
 
 -- the outcome ends so
@@ -206,7 +206,7 @@ module _ (M : Model) (S : State) (slot c kind word : ℕ) where
   ignore-row =
       inside _ _
       (twilight-case (Ends _) (slotAt S i) _ (λ p. rw p) λ ignoring start commit reads writes x.
-      rw x (cond-case (Ends _) (someMarked reads) _ _ (λ m. refl) (λ m. refl)))
+      rw x (tested (markedWritten reads writes) MarkedWritten _ _ (cond-case (Ends _) (someMarked reads) _ _ (λ m. refl) (λ m. refl))))
 
   finish-row : Numbered 12
   unfolding table finish

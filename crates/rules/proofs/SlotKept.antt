@@ -45,14 +45,15 @@ busy-parts M cells clock l v p =
     let p6 = and-right _ _ p5 in
     let p7 = and-right _ _ p6 in
     let p8 = and-right _ _ p7 in
+    let p9 = and-right _ _ p8 in
     record {
       counts = and-left _ _ p;
       taken = and-left _ _ p4;
       commit = and-left _ _ p5;
       marks = and-left _ _ p6;
       ignoring = and-left _ _ p7;
-      flags = and-left _ _ p8;
-      unused = and-right _ _ p8;
+      flags = and-left _ _ p9;
+      unused = and-right _ _ p9;
     }
 
 pub flagged : (w : ℕ) (l : List ℕ) → flagsRight w l ≡ true → Flagged w l

@@ -23,6 +23,7 @@ use Rattle.rules.specs.Model.{Model}
 use Rattle.rules.specs.State.{Slot, idle, opened, locking, twilight, publishing}
 use Rattle.rules.specs.StateRight.{logsRight, slotRight}
 use Rattle.rules.specs.Layout.{lay}
+use Rattle.rules.specs.LogsRight.{noUpdateLost}
 use Rattle.rules.specs.AreaRight.{zeros, countsRight, flagsRight, unusedZero, takenRight, commitRight, marksRight, ignoringRight, busyRight, slotPlaceRight}
 use Rattle.rules.specs.declared.Cell.{Cell}
 use Rattle.slot.proofs.Logic.{and-assoc, and-true, true-and, true-or, false-or, or-when, and-intro, every-of}
@@ -85,7 +86,7 @@ module _ (M : Model) (cells : List Cell) (clock : ℕ) (rest : List ℕ) where
   busy-laid : (phase : ℕ) (ignoring : Bool) (taken start commit : ℕ) (reads : List ReadEntry) (writes : List WriteEntry)
       → let v = busyRecord phase ignoring taken start commit reads writes in
       busyRight M cells clock (slotBytes (M .stampBytes) v ++ rest) v
-      ≡ (logsRight cells clock start reads writes and takenRight v and commitRight clock v and marksRight v and ignoringRight v)
+      ≡ (logsRight cells clock start reads writes and takenRight v and commitRight clock v and marksRight v and ignoringRight v and noUpdateLost ignoring reads writes)
   unfolding busyRight countsRight logsRight
   busy-laid phase ignoring taken start commit reads writes =
       let v = busyRecord phase ignoring taken start commit reads writes in
@@ -102,7 +103,7 @@ module _ (M : Model) (cells : List Cell) (clock : ℕ) (rest : List ℕ) where
 
   pub slot-laid : (x : Slot) → Fitting (M .stampBytes) (lay x)
       → slotPlaceRight M cells clock (slotBytes (M .stampBytes) (lay x) ++ rest) ≡ slotRight cells clock x
-  unfolding slotPlaceRight slotRight takenRight commitRight marksRight ignoringRight
+  unfolding slotPlaceRight slotRight takenRight commitRight marksRight ignoringRight noUpdateLost
   slot-laid idle fit = rw (slot-back (M .stampBytes) (lay idle) rest fit, true-and) idle-laid
   slot-laid (opened start reads writes) fit =
       rw (slot-back (M .stampBytes) (lay (opened start reads writes)) rest fit, true-and, busy-laid 1 false 0 start 0 reads writes, read-log (opened start reads writes))
@@ -115,4 +116,4 @@ module _ (M : Model) (cells : List Cell) (clock : ℕ) (rest : List ℕ) where
       (simp (true-and, and-true, true-or))
   slot-laid (publishing ignoring taken start commit reads writes) fit =
       rw (slot-back (M .stampBytes) (lay (publishing ignoring taken start commit reads writes)) rest fit, true-and, busy-laid 4 ignoring taken start commit reads writes, read-log (opened start reads writes))
-      (simp (true-and, false-or, true-or))
+      (simp (true-and, false-or, true-or, and-assoc))

@@ -9,7 +9,7 @@ use Rattle.slot.specs.Layout.{readCapacity, writeCapacity, readSize, writeSize,
 use Rattle.slot.specs.Logic.{_and_, _or_, every, all, pairwise}
 use Rattle.rules.specs.Model.{Model, sizeOfSlot, areaLength}
 use Rattle.slot.specs.Logs.{writesCell, someMarked, readLog, writeLog}
-use Rattle.rules.specs.LogsRight.{cellRight, readsRight, writesRight, cellCountRight, commitBetween, stampsApart, holdersRight}
+use Rattle.rules.specs.LogsRight.{cellRight, readsRight, writesRight, noUpdateLost, cellCountRight, commitBetween, stampsApart, holdersRight}
 use Rattle.rules.specs.Layout.{versionIn, lengthIn, countIn, clockIn, slotPlace, cellsIn, recordsIn}
 use Rattle.rules.specs.declared.Cell.{Cell}
 
@@ -70,6 +70,7 @@ busyRight M cells clock l v =
     and commitRight clock v
     and marksRight v
     and ignoringRight v
+    and noUpdateLost (v .ignoring) (readLog v) (writeLog v)
     and flagsRight (M .stampBytes) l
     and unusedZero (M .stampBytes) l v
 

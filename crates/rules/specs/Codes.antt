@@ -9,7 +9,7 @@ use Rattle.value.specs.Legal.{legalWord}
 use Rattle.slot.specs.declared.ReadEntry.{ReadEntry}
 use Rattle.slot.specs.Layout.{readCapacity, writeCapacity, noWrite}
 use Rattle.slot.specs.Logic.{_and_, _or_, any}
-use Rattle.slot.specs.Logs.{readsCell, writesCell, someMarked}
+use Rattle.slot.specs.Logs.{readsCell, writesCell, someMarked, markedWritten}
 use Rattle.rules.specs.Model.{Model, lastStamp, lastStep}
 use Rattle.rules.specs.State.{State, Slot, cellCount, cellAt, slotAt, readsOf, writesOf, startOf, takenOf, ignoringOf}
 use Rattle.rules.specs.Cells.{heldByOther, newer}
@@ -55,6 +55,9 @@ module _ (M : Model) (S : State) (a : Call) where
   abbrev isReload : Bool
   isReload = eqb (a .step) 10
 
+  abbrev isIgnore : Bool
+  isIgnore = eqb (a .step) 11
+
   abbrev isFinish : Bool
   isFinish = eqb (a .step) 12
 
@@ -73,6 +76,10 @@ module _ (M : Model) (S : State) (a : Call) where
   -- 4: the step is not allowed in the slot's present state
   unfoldable pub notAllowed : Bool
   notAllowed = not (allowed (a .step) own)
+
+  -- 15: ignore: some marked cell is also in the slot's write log
+  unfoldable pub updateLost : Bool
+  updateLost = isIgnore and markedWritten (readsOf own) (writesOf own)
 
   -- 5: read, write, reread, update, ask: cell not below n
   unfoldable pub cellOutside : Bool
@@ -120,6 +127,7 @@ module _ (M : Model) (S : State) (a : Call) where
       2 when stepOutside
       ∷ 3 when slotOutside
       ∷ 4 when notAllowed
+      ∷ 15 when updateLost
       ∷ 5 when cellOutside
       ∷ 6 when valueIllegal
       ∷ 7 when kindDiffers

@@ -8,6 +8,7 @@ use Rattle.value.specs.Legal.{legalWord}
 use Rattle.slot.specs.declared.ReadEntry.{ReadEntry}
 use Rattle.slot.specs.declared.WriteEntry.{WriteEntry}
 use Rattle.slot.specs.Logic.{_and_, _or_, same, every, all, pairwise}
+use Rattle.slot.specs.Logs.{markedWritten}
 use Rattle.rules.specs.Model.{Model}
 use Rattle.rules.specs.State.{noCell}
 use Rattle.rules.specs.declared.Cell.{Cell}
@@ -31,6 +32,10 @@ unfoldable pub writesRight : List Cell → List WriteEntry → Bool
 writesRight cells writes =
     all (λ (e : WriteEntry). loggedRight cells (e .cell) (e .word)) writes
     and pairwise (λ (e f : WriteEntry). ltb (e .cell) (f .cell)) writes
+
+-- "An area with the flag set in such a state is not well formed": the flag is 1 only if no marked cell is also in the write log
+unfoldable pub noUpdateLost : Bool → List ReadEntry → List WriteEntry → Bool
+noUpdateLost ignoring reads writes = not ignoring or not (markedWritten reads writes)
 
 -- n from 1 to 64
 unfoldable pub cellCountRight : Model → ℕ → Bool

@@ -1,4 +1,4 @@
--- "The lowest code that applies is given, and none is given otherwise." "14 held, tested before 10."
+-- "The lowest code that applies is given, and none is given otherwise." "14 held, tested before 10." "15, tested after 4."
 use mathlib.Core.Bool.{Bool, true, false, cond}
 use mathlib.Core.List.{List}
 use mathlib.Core.Path.{_≡_}
@@ -21,9 +21,9 @@ abbrev pub ending : Outcome → Ending
 ending (refused r) = refusal (replyCode r)
 ending (accepted r T) = outcome (replyCode r)
 
--- How low a code is, in tenths: 14 stands between 9 and 10, and every other code where its number is.
+-- How low a code is, in tenths: 15 stands between 4 and 5, 14 between 9 and 10, and every other code where its number is.
 abbrev pub height : ℕ → ℕ
-height code = cond (eqb code 14) 95 (10 * code)
+height code = cond (eqb code 15) 45 (cond (eqb code 14) 95 (10 * code))
 
 -- a row of the table applies, and its code is lower than k
 abbrev pub lowerApplies : ℕ → Row → Bool

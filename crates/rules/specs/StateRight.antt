@@ -11,7 +11,7 @@ use Rattle.slot.specs.Logic.{_and_, _or_, all, pairwise}
 use Rattle.rules.specs.Model.{Model, lastStamp}
 use Rattle.rules.specs.State.{State, Slot, idle, opened, locking, twilight, publishing, cellCount, slotAt, commitOf}
 use Rattle.slot.specs.Logs.{writesCell, someMarked}
-use Rattle.rules.specs.LogsRight.{cellRight, readsRight, writesRight, cellCountRight, commitBetween, stampsApart, holdersRight}
+use Rattle.rules.specs.LogsRight.{cellRight, readsRight, writesRight, noUpdateLost, cellCountRight, commitBetween, stampsApart, holdersRight}
 use Rattle.rules.specs.declared.Cell.{Cell}
 
 -- in every phase but idle: at most 16 entries, logs right, start at most the clock
@@ -24,20 +24,24 @@ logsRight cells clock start reads writes =
     and leb start clock
 
 -- Marks are 0 before phase 3. "Taken" is never above the write count, and less than it in phase 4. The flag is 1 only if some mark is 1; in phase 4 a mark
--- requires the flag.
+-- requires the flag. With the flag no marked cell is also in the write log.
 unfoldable pub slotRight : List Cell → ℕ → Slot → Bool
 slotRight cells clock idle = true
 slotRight cells clock (opened start reads writes) = logsRight cells clock start reads writes and not (someMarked reads)
 slotRight cells clock (locking taken start reads writes) =
     logsRight cells clock start reads writes and leb taken (length writes) and not (someMarked reads)
 slotRight cells clock (twilight ignoring start commit reads writes) =
-    logsRight cells clock start reads writes and commitBetween start commit clock and (not ignoring or someMarked reads)
+    logsRight cells clock start reads writes
+    and commitBetween start commit clock
+    and (not ignoring or someMarked reads)
+    and noUpdateLost ignoring reads writes
 slotRight cells clock (publishing ignoring taken start commit reads writes) =
     logsRight cells clock start reads writes
     and ltb taken (length writes)
     and commitBetween start commit clock
     and (not ignoring or someMarked reads)
     and (not (someMarked reads) or ignoring)
+    and noUpdateLost ignoring reads writes
 
 -- the cells that a slot holds: in phase 2 the first "taken" of its write log, in phase 3 those in the log, in phase 4 those not among the first "taken"
 unfoldable pub holds : Slot → ℕ → Bool

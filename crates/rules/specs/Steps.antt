@@ -7,12 +7,12 @@ use lib.ListN.{length, getD, set}
 use Rattle.value.specs.declared.CellValue.{CellValue}
 use Rattle.value.specs.Value.{wordOf, valueOf}
 use Rattle.call.specs.declared.Reply.{Reply}
-use Rattle.call.specs.declared.Reply.the-variants.{Done, Verdict, Value, NotAllowed, IllegalValue, LogFull, ReadHeld, ReadNewer, LockHeld, ReloadHeld, Aborted}
+use Rattle.call.specs.declared.Reply.the-variants.{Done, Verdict, Value, NotAllowed, MarkedWritten, IllegalValue, LogFull, ReadHeld, ReadNewer, LockHeld, ReloadHeld, Aborted}
 use Rattle.slot.specs.declared.ReadEntry.{ReadEntry}
 use Rattle.slot.specs.declared.WriteEntry.{WriteEntry}
 use Rattle.slot.specs.Layout.{readCapacity, writeCapacity, noWrite}
 use Rattle.slot.specs.Logic.{_and_}
-use Rattle.slot.specs.Logs.{readEntry, writeEntry, writesCell, putWrite, someMarked}
+use Rattle.slot.specs.Logs.{readEntry, writeEntry, writesCell, putWrite, someMarked, markedWritten}
 use Rattle.rules.specs.Model.{Model}
 use Rattle.rules.specs.State.{State, Slot, idle, opened, locking, twilight, publishing, cellAt, slotAt, turn}
 use Rattle.rules.specs.Cells.{heldByOther, newer, withMark, reloaded, obstacle, takenBy, publishedAs, freeAll}
@@ -121,13 +121,14 @@ reload M S i =
     (turn S i (suc (S .clock)) (S .cells)
     (twilight false start (suc (S .clock)) (map (reloaded S) reads) writes))))
 
--- 11 ignore: sets the ignoring flag if any entry is marked; else changes nothing
+-- 11 ignore: sets the ignoring flag if any entry is marked; else changes nothing. "Ignore shall be refused if some marked cell is also in the slot's write log."
 unfoldable pub ignore : Model → State → ℕ → Outcome
 ignore M S i =
     whenTwilight (slotAt S i) λ ignoring start commit reads writes.
-    cond (someMarked reads)
+    refuseIf (markedWritten reads writes) MarkedWritten
+    (cond (someMarked reads)
     (accepted Done (turn S i (S .clock) (S .cells) (twilight true start commit reads writes)))
-    (accepted Done S)
+    (accepted Done S))
 
 -- publishing while a cell is unpublished, else idle
 unfoldable pub publishingOrIdle : Bool → ℕ → ℕ → ℕ → List ReadEntry → List WriteEntry → Slot

@@ -5,7 +5,7 @@ use mathlib.Core.Option.{Option}
 use Prim.Native.Nat.{ℕ, _-_}
 use lib.Dec.{eqb, ltb}
 use lib.ListN.{length, take, replicate}
-use Rattle.slot.specs.Logic.{any, first}
+use Rattle.slot.specs.Logic.{_and_, any, first}
 use Rattle.slot.specs.Layout.{readCapacity, writeCapacity, noRead, noWrite}
 use Rattle.slot.specs.declared.ReadEntry.{ReadEntry}
 use Rattle.slot.specs.declared.WriteEntry.{WriteEntry}
@@ -40,6 +40,11 @@ putWrite e (x ∷ writes) =
 unfoldable pub someMarked : List ReadEntry → Bool
 unfolding any
 someMarked reads = any (λ (e : ReadEntry). e .mark) reads
+
+-- some marked cell is also in the write log
+unfoldable pub markedWritten : List ReadEntry → List WriteEntry → Bool
+unfolding any
+markedWritten reads writes = any (λ (e : ReadEntry). e .mark and writesCell writes (e .cell)) reads
 
 -- a log in an array of 16: unused entries all zero
 abbrev pub paddedReads : List ReadEntry → List ReadEntry

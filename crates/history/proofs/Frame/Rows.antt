@@ -14,7 +14,7 @@ use Rattle.value.specs.Value.{kindOf, wordOf, valueOf}
 use Rattle.call.specs.declared.Step.{Step}
 use Rattle.call.specs.declared.Step.the-variants.{Begin, Read, Write, Close, Lock, Enter, Reread, Update, Ask, Reload, Ignore, Finish, Publish, GiveUp}
 use Rattle.call.specs.declared.Reply.{Reply}
-use Rattle.call.specs.declared.Reply.the-variants.{Done, Verdict, Value, NotAllowed, NoSuchCell, IllegalValue, OtherKind, LogFull, ReadHeld, ReadNewer, LockHeld, ReloadHeld, LastStamp, Aborted}
+use Rattle.call.specs.declared.Reply.the-variants.{Done, Verdict, Value, NotAllowed, MarkedWritten, NoSuchCell, IllegalValue, OtherKind, LogFull, ReadHeld, ReadNewer, LockHeld, ReloadHeld, LastStamp, Aborted}
 use Rattle.slot.specs.declared.ReadEntry.{ReadEntry}
 use Rattle.slot.specs.declared.WriteEntry.{WriteEntry}
 use Rattle.slot.specs.Layout.{readCapacity, writeCapacity, noRead, noWrite}
@@ -22,7 +22,7 @@ use Rattle.rules.specs.declared.Cell.{Cell}
 use Rattle.slot.specs.Logic.{_and_, _or_}
 use Rattle.rules.specs.Model.{Model, lastStamp}
 use Rattle.rules.specs.State.{State, Slot, idle, opened, twilight, cellAt, slotAt, turn, readsOf, writesOf, noCell}
-use Rattle.slot.specs.Logs.{readEntry, readsCell, writeEntry, writesCell, someMarked}
+use Rattle.slot.specs.Logs.{readEntry, readsCell, writeEntry, writesCell, someMarked, markedWritten}
 use Rattle.rules.specs.Cells.{heldByOther, newer, withMark, reloaded, obstacle, takenBy, publishedAs, freeAll}
 use Rattle.rules.specs.Outcome.{Outcome, accepted, insideCells, fittingValue, belowLastStamp}
 use Rattle.rules.specs.Steps.{answer, begin, readShared, read, write, close, lock, enter, reread, update, ask, reload, ignore, finish, publish, giveUp}
@@ -191,6 +191,7 @@ module _ (M : Model) (S S′ : State) (i : ℕ) where
   matches Ignore a =
       rw (← (a .slot))
       (both-twilight (slotAt S i) _ _ λ ignoring start commit reads writes x.
+      both-refuse (markedWritten reads writes) _ MarkedWritten MarkedWritten _ _ refl refl (tt, tt) λ free.
       both-cond (someMarked reads) _ _ _ _ _ refl (λ m. done a _) (λ m. stays a Done Done refl tt))
   matches Finish a =
       rw (← (a .slot))

@@ -78,7 +78,7 @@ module _ (M : Model) (S : State) (i : ℕ) where
   effect (updated x fit found) = steady _ _ _ none-changed
   effect (ask-done e) = stays _
   effect (reloading x clear below) = turned _ _ _ _ (omega arith) (λ n m. absurd (m refl)) none-changed
-  effect (ignored x m) = steady _ _ _ none-changed
+  effect (ignored x free m) = steady _ _ _ none-changed
   effect nothing-to-ignore = stays _
   effect (aborted x m) = steady _ _ _ own-freed
   effect (committed x m) = steady _ _ _ none-changed

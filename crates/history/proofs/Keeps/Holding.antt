@@ -86,7 +86,7 @@ module _ (M : Model) (S : State) (right : Right M S) (i : ℕ) (inside : i < M .
         (publishingOrIdle ignoring (suc count) start commit reads writes))
     unfolding holds loggedRight cellRight writesRight
     published-right =
-        let (logs, more, above, given, flag) = now-is M S right i inside (publishing ignoring count start commit reads writes) x in
+        let (logs, more, above, given, flag, kept) = now-is M S right i inside (publishing ignoring count start commit reads writes) x in
         let logged : loggedRight (S .cells) (e .cell) (e .word) ≡ true = rw q (logged-at start reads writes count logs more) in
         let there : e .cell < cellCount S = ltb-true _ _ (and-left _ _ logged) in
         let named : e .cell ≡ getD writes count noWrite .cell = ap (λ (f : WriteEntry). f .cell) q in
@@ -94,7 +94,7 @@ module _ (M : Model) (S : State) (right : Right M S) (i : ℕ) (inside : i < M .
         eqb-true _ _ (right .held (e .cell) i there inside ∙ rw x (owed-it writes count more (e .cell) named)) in
         one-cell (e .cell) (publishedAs (e .word) commit (cellAt S (e .cell))) (publishingOrIdle ignoring (suc count) start commit reads writes) there refl
         (and-intro _ _ (and-right _ _ logged) (le-leb _ _ given)) (omega arith)
-        (owing-right (S .cells) (S .clock) ignoring (suc count) start commit reads writes logs above given flag)
+        (owing-right (S .cells) (S .clock) ignoring (suc count) start commit reads writes logs above given flag kept)
         (owing-stamp M S right i inside ignoring (suc count) start commit reads writes (rw x))
         (eqb·zero-suc i ∙ sym (owing-holds ignoring (suc count) start commit reads writes (e .cell) ∙ rw named (published-once writes count more (and-right _ _ (logs .writesHold)))))
         (λ d n. owing-holds ignoring (suc count) start commit reads writes d ∙ owed-other writes count more d (λ p. n (p ∙ sym named)) ∙ sym (ap (λ (y : Slot). holds y d) x))

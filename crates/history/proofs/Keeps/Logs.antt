@@ -3,7 +3,7 @@
 use mathlib.Core.Bool.{Bool, true, false, not}
 use mathlib.Core.List.{List, [], _∷_, _++_, map}
 use mathlib.Core.Option.{none}
-use mathlib.Core.Path.{_≡_, refl, sym, _∙_, ap}
+use mathlib.Core.Path.{_≡_, refl, sym, _∙_, ap, ap₂}
 use Prim.Native.Nat.{ℕ, suc, _<_, _≤_}
 use native.Mathlib.Omega.{arith}
 use lib.Dec.{eqb, ltb}
@@ -15,7 +15,7 @@ use Rattle.slot.specs.declared.WriteEntry.{WriteEntry}
 use Rattle.slot.specs.Layout.{noWrite}
 use Rattle.rules.specs.declared.Cell.{Cell}
 use Rattle.slot.specs.Logic.{_and_, _or_, all, any, pairwise}
-use Rattle.slot.specs.Logs.{readEntry, writesCell, putWrite}
+use Rattle.slot.specs.Logs.{readEntry, writesCell, markedWritten, putWrite}
 use Rattle.rules.specs.LogsRight.{loggedRight, readsRight, writesRight}
 use Rattle.slot.proofs.Logic.{and-intro, and-left, and-right, false-or, or-false, true-or, or-true, all-map, pairwise-map}
 use Rattle.history.proofs.Keeps.Lists.{same-or-not, cond-elim, or-neither, or-twice, or-swap, all-imp, all-snoc, pairwise-snoc, pairwise-drop, any-append, any-none, any-at, first-none}
@@ -79,6 +79,12 @@ module _ (e : WriteEntry) where
       ∙ same-or-not ((eqb (e .cell) c or writesCell l c) ≡ writesCell l c) (e .cell) c
       (λ h. rw (← h, w) (or-true (eqb (e .cell) (e .cell))))
       (λ n. rw (ne-eqb (e .cell) c n) (false-or (writesCell l c)))
+
+-- marked cells are in a log exactly if they are in one of the same cells
+pub marked-same : (l m : List WriteEntry) → ((c : ℕ) → writesCell m c ≡ writesCell l c) → (reads : List ReadEntry) → markedWritten reads m ≡ markedWritten reads l
+unfolding markedWritten any
+marked-same l m same [] = refl
+marked-same l m same (e ∷ reads) = ap₂ _or_ (ap (λ (b : Bool). e .mark and b) (same (e .cell))) (marked-same l m same reads)
 
 -- the cell of the entry at k is in the log
 pub logged-there : (l : List WriteEntry) (k c : ℕ) → k < length l → c ≡ getD l k noWrite .cell → writesCell l c ≡ true

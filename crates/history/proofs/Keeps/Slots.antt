@@ -14,7 +14,7 @@ use Rattle.rules.specs.declared.Cell.{Cell}
 use Rattle.slot.specs.Logic.{_or_}
 use Rattle.rules.specs.State.{Slot, idle, opened, locking, twilight, publishing, commitOf}
 use Rattle.slot.specs.Logs.{writesCell, someMarked}
-use Rattle.rules.specs.LogsRight.{loggedRight, readsRight, writesRight, commitBetween}
+use Rattle.rules.specs.LogsRight.{loggedRight, readsRight, writesRight, noUpdateLost, commitBetween}
 use Rattle.rules.specs.StateRight.{logsRight, slotRight, holds}
 use Rattle.rules.specs.Steps.{publishingOrIdle}
 use Rattle.slot.proofs.Logic.{and-intro, and-left, and-right}
@@ -40,8 +40,10 @@ SlotHolds cells clock (opened start reads writes) = LogsHold cells clock start r
 SlotHolds cells clock (locking taken start reads writes) = LogsHold cells clock start reads writes × (taken ≤ length writes) × (someMarked reads ≡ false)
 SlotHolds cells clock (twilight ignoring start commit reads writes) =
     LogsHold cells clock start reads writes × (start < commit) × (commit ≤ clock) × ((not ignoring or someMarked reads) ≡ true)
+    × (noUpdateLost ignoring reads writes ≡ true)
 SlotHolds cells clock (publishing ignoring taken start commit reads writes) =
     LogsHold cells clock start reads writes × (taken < length writes) × (start < commit) × (commit ≤ clock) × (ignoring ≡ someMarked reads)
+    × (noUpdateLost ignoring reads writes ≡ true)
 
 module _ (cells : List Cell) (clock : ℕ) where
   logs-right : (start : ℕ) (reads : List ReadEntry) (writes : List WriteEntry) → LogsHold cells clock start reads writes → logsRight cells clock start reads writes ≡ true
@@ -60,12 +62,20 @@ module _ (cells : List Cell) (clock : ℕ) where
   slot-holds (twilight ignoring start commit reads writes) p =
       let q = and-right _ _ p in
       let k = and-left _ _ q in
-      (logs-hold cells clock start reads writes (and-left _ _ p), ltb-true _ _ (and-left _ _ k), leb-true _ _ (and-right _ _ k), and-right _ _ q)
+      (logs-hold cells clock start reads writes (and-left _ _ p), ltb-true _ _ (and-left _ _ k), leb-true _ _ (and-right _ _ k), and-left _ _ (and-right _ _ q), and-right _ _ (and-right _ _ q))
   slot-holds (publishing ignoring taken start commit reads writes) p =
       let q = and-right _ _ p in
       let r = and-right _ _ q in
       let k = and-left _ _ r in
-      (logs-hold cells clock start reads writes (and-left _ _ p), ltb-true _ _ (and-left _ _ q), ltb-true _ _ (and-left _ _ k), leb-true _ _ (and-right _ _ k), flags-eq _ _ (and-left _ _ (and-right _ _ r)) (and-right _ _ (and-right _ _ r)))
+      let flags = and-right _ _ r in
+      (
+        logs-hold cells clock start reads writes (and-left _ _ p),
+        ltb-true _ _ (and-left _ _ q),
+        ltb-true _ _ (and-left _ _ k),
+        leb-true _ _ (and-right _ _ k),
+        flags-eq _ _ (and-left _ _ flags) (and-left _ _ (and-right _ _ flags)),
+        and-right _ _ (and-right _ _ flags),
+      )
 
   pub slot-right : (x : Slot) → SlotHolds cells clock x → slotRight cells clock x ≡ true
   unfolding slotRight commitBetween
@@ -74,10 +84,12 @@ module _ (cells : List Cell) (clock : ℕ) where
   slot-right (locking taken start reads writes) h =
       and-intro _ _ (logs-right start reads writes (h .0)) (and-intro _ _ (le-leb _ _ (h .1)) (ap not (h .2)))
   slot-right (twilight ignoring start commit reads writes) h =
-      and-intro _ _ (logs-right start reads writes (h .0)) (and-intro _ _ (and-intro _ _ (lt-ltb _ _ (h .1)) (le-leb _ _ (h .2))) (h .3))
+      and-intro _ _ (logs-right start reads writes (h .0)) (and-intro _ _ (and-intro _ _ (lt-ltb _ _ (h .1)) (le-leb _ _ (h .2))) (and-intro _ _ (h .3) (h .4)))
   slot-right (publishing ignoring taken start commit reads writes) h =
       and-intro _ _ (logs-right start reads writes (h .0))
-      (and-intro _ _ (lt-ltb _ _ (h .1)) (and-intro _ _ (and-intro _ _ (lt-ltb _ _ (h .2)) (le-leb _ _ (h .3))) (rw (h .4) (and-intro _ _ (not-or (someMarked reads)) (not-or (someMarked reads))))))
+      (and-intro _ _ (lt-ltb _ _ (h .1))
+      (and-intro _ _ (and-intro _ _ (lt-ltb _ _ (h .2)) (le-leb _ _ (h .3)))
+      (and-intro _ _ (rw (h .4) (not-or (someMarked reads))) (and-intro _ _ (rw (h .4) (not-or (someMarked reads))) (h .5)))))
 
   -- a commit stamp is at most the clock
   pub commit-given : (x : Slot) → SlotHolds cells clock x → commitOf x ≤ clock
@@ -90,10 +102,11 @@ module _ (cells : List Cell) (clock : ℕ) where
   -- publishing from the k-th on: idle if there is none
   module _ (ignoring : Bool) (k start commit : ℕ) (reads : List ReadEntry) (writes : List WriteEntry) where
     pub owing-right : LogsHold cells clock start reads writes → start < commit → commit ≤ clock → ignoring ≡ someMarked reads
+        → noUpdateLost ignoring reads writes ≡ true
         → SlotHolds cells clock (publishingOrIdle ignoring k start commit reads writes)
     unfolding publishingOrIdle
-    owing-right logs above given flag =
-        cond-elim (SlotHolds cells clock) (ltb k (length writes)) _ _ (λ h. (logs, ltb-true _ _ h, above, given, flag)) (λ h. tt)
+    owing-right logs above given flag kept =
+        cond-elim (SlotHolds cells clock) (ltb k (length writes)) _ _ (λ h. (logs, ltb-true _ _ h, above, given, flag, kept)) (λ h. tt)
 
 pub owing-holds : (ignoring : Bool) (k start commit : ℕ) (reads : List ReadEntry) (writes : List WriteEntry) (c : ℕ)
     → holds (publishingOrIdle ignoring k start commit reads writes) c ≡ writesCell (drop k writes) c
@@ -126,7 +139,7 @@ module _ (cells next : List Cell) (clock later : ℕ) (kinds : SameKinds cells n
   slot-kept (locking taken start reads writes) h = (logs-kept start reads writes (h .0), h .1, h .2)
   slot-kept (twilight ignoring start commit reads writes) h =
       let given = h .2 in
-      (logs-kept start reads writes (h .0), h .1, omega arith, h .3)
+      (logs-kept start reads writes (h .0), h .1, omega arith, h .3, h .4)
   slot-kept (publishing ignoring taken start commit reads writes) h =
       let given = h .3 in
-      (logs-kept start reads writes (h .0), h .1, h .2, omega arith, h .4)
+      (logs-kept start reads writes (h .0), h .1, h .2, omega arith, h .4, h .5)

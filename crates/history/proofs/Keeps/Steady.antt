@@ -3,7 +3,7 @@
 use mathlib.Core.Bool.{Bool, true, false, not}
 use mathlib.Core.List.{List, [], _∷_, _++_, map}
 use mathlib.Core.Option.{none, some}
-use mathlib.Core.Path.{_≡_, refl, sym, _∙_, subst}
+use mathlib.Core.Path.{_≡_, refl, sym, _∙_, ap, subst}
 use Prim.Native.Nat.{ℕ, suc, _<_, _≤_}
 use native.Mathlib.Omega.{arith}
 use lib.Dec.{leb}
@@ -18,9 +18,9 @@ use Rattle.slot.specs.Layout.{readCapacity, writeCapacity}
 use Rattle.slot.specs.Logic.{_and_, _or_, all, pairwise, any}
 use Rattle.rules.specs.Model.{Model, lastStamp}
 use Rattle.rules.specs.State.{State, Slot, idle, opened, locking, twilight, cellCount, cellAt, slotAt, turn, commitOf}
-use Rattle.slot.specs.Logs.{readEntry, writeEntry, writesCell, putWrite, someMarked}
+use Rattle.slot.specs.Logs.{readEntry, writeEntry, writesCell, putWrite, someMarked, markedWritten}
 use Rattle.rules.specs.Cells.{withMark, reloaded}
-use Rattle.rules.specs.LogsRight.{cellRight, loggedRight, readsRight, writesRight}
+use Rattle.rules.specs.LogsRight.{cellRight, loggedRight, readsRight, writesRight, noUpdateLost}
 use Rattle.rules.specs.StateRight.{holds}
 use Rattle.rules.specs.Steps.{publishingOrIdle}
 use Rattle.slot.proofs.Logic.{and-intro, and-left, and-right}
@@ -30,7 +30,7 @@ use Rattle.rules.proofs.StateSized.{LogsHold}
 use Rattle.history.proofs.Move.{Fitting, newRead, newWrite}
 use Rattle.history.proofs.Right.{Right}
 use Rattle.history.proofs.Keeps.Lists.{any-append}
-use Rattle.history.proofs.Keeps.Logs.{put-same, reads-joined, reads-changed, writes-put}
+use Rattle.history.proofs.Keeps.Logs.{put-same, marked-same, reads-joined, reads-changed, writes-put}
 use Rattle.history.proofs.Keeps.Slots.{SlotHolds, owing-right, owing-holds}
 use Rattle.history.proofs.Keeps.Turn.{slot-now, keeps-stamp, new-stamp, owing-stamp, still}
 
@@ -148,12 +148,12 @@ module _ (M : Model) (S : State) (right : Right M S) (i : ℕ) (inside : i < M .
   pub entered-right : (count start : ℕ) (reads : List ReadEntry) (writes : List WriteEntry) → slotAt S i ≡ locking count start reads writes → length writes ≤ count
       → (S .clock ≡ lastStamp M → ⊥)
       → Right M (turn S i (suc (S .clock)) (S .cells) (twilight false start (suc (S .clock)) (map (withMark S i start) reads) writes))
-  unfolding holds withMark _or_
+  unfolding holds withMark _or_ noUpdateLost
   entered-right count start reads writes x whole below =
       let (logs, taken, unmarked) = now-is (locking count start reads writes) x in
       let begun = logs .startHolds in
       stamped (twilight false start (suc (S .clock)) (map (withMark S i start) reads) writes) below
-      (logs-changed M S right start reads writes logs (withMark S i start) (λ e. refl) (λ e h. h), omega arith, omega arith, refl)
+      (logs-changed M S right start reads writes logs (withMark S i start) (λ e. refl) (λ e h. h), omega arith, omega arith, refl, refl)
       refl (λ c. rw (x, take-all count writes whole))
 
   module _ (ignoring : Bool) (start commit : ℕ) (reads : List ReadEntry) (writes : List WriteEntry) (x : slotAt S i ≡ twilight ignoring start commit reads writes) where
@@ -162,36 +162,36 @@ module _ (M : Model) (S : State) (right : Right M S) (i : ℕ) (inside : i < M .
 
     pub updated-right : (c : ℕ) (v : CellValue) (e : WriteEntry) → Fitting S c v → writeEntry writes c ≡ some e
         → Right M (turn S i (S .clock) (S .cells) (twilight ignoring start commit reads (putWrite (newWrite c v) writes)))
-    unfolding holds _and_
+    unfolding holds _and_ noUpdateLost
     updated-right c v e fit found =
-        let (logs, above, given, flag) = twilight-now in
+        let (logs, above, given, flag, kept) = twilight-now in
         let there = write-has writes c e found in
         steady (twilight ignoring start commit reads (putWrite (newWrite c v) writes))
-        (logs-put M S right start reads writes logs c v fit (rw there), above, given, flag)
+        (logs-put M S right start reads writes logs c v fit (rw there), above, given, flag, rw (marked-same writes (putWrite (newWrite c v) writes) (λ d. put-same (newWrite c v) writes d there) reads) kept)
         (rw x) (λ d. rw x (put-same (newWrite c v) writes d there))
 
     pub reloaded-right : (S .clock ≡ lastStamp M → ⊥)
         → Right M (turn S i (suc (S .clock)) (S .cells) (twilight false start (suc (S .clock)) (map (reloaded S) reads) writes))
-    unfolding holds reloaded _or_ loggedRight
+    unfolding holds reloaded _or_ loggedRight noUpdateLost
     reloaded-right below =
-        let (logs, above, given, flag) = twilight-now in
+        let (logs, above, given, flag, kept) = twilight-now in
         let begun = logs .startHolds in
         stamped (twilight false start (suc (S .clock)) (map (reloaded S) reads) writes) below
-        (logs-changed M S right start reads writes logs (reloaded S) (λ e. refl) (λ e h. legal-here M S right (e .cell) (ltb-true _ _ (and-left _ _ h))), omega arith, omega arith, refl)
+        (logs-changed M S right start reads writes logs (reloaded S) (λ e. refl) (λ e h. legal-here M S right (e .cell) (ltb-true _ _ (and-left _ _ h))), omega arith, omega arith, refl, refl)
         refl (λ c. rw x)
 
-    pub ignored-right : someMarked reads ≡ true → Right M (turn S i (S .clock) (S .cells) (twilight true start commit reads writes))
-    unfolding holds _or_
-    ignored-right m =
-        let (logs, above, given, flag) = twilight-now in
-        steady (twilight true start commit reads writes) (logs, above, given, m) (rw x) (λ c. rw x)
+    pub ignored-right : markedWritten reads writes ≡ false → someMarked reads ≡ true → Right M (turn S i (S .clock) (S .cells) (twilight true start commit reads writes))
+    unfolding holds _or_ noUpdateLost
+    ignored-right free m =
+        let (logs, above, given, flag, kept) = twilight-now in
+        steady (twilight true start commit reads writes) (logs, above, given, m, ap not free) (rw x) (λ c. rw x)
 
     pub committed-right : (someMarked reads and not ignoring) ≡ false
         → Right M (turn S i (S .clock) (S .cells) (publishingOrIdle ignoring 0 start commit reads writes))
     unfolding holds
     committed-right m =
-        let (logs, above, given, flag) = twilight-now in
+        let (logs, above, given, flag, kept) = twilight-now in
         still M S right i inside (S .clock) (publishingOrIdle ignoring 0 start commit reads writes) (omega arith) (right .clock-last)
-        (owing-right (S .cells) (S .clock) ignoring 0 start commit reads writes logs above given (flag-is _ _ m flag))
+        (owing-right (S .cells) (S .clock) ignoring 0 start commit reads writes logs above given (flag-is _ _ m flag) kept)
         (owing-stamp M S right i inside ignoring 0 start commit reads writes (rw x))
         (λ c. rw x (owing-holds ignoring 0 start commit reads writes c))
