@@ -59,9 +59,16 @@ indexed a l n framed counted p =
     }
 
 -- a busy slot's clauses in the order of the code
-pub busy-order : (a : List ℕ) (clock : ℕ) (l : List ℕ)
-    → (countsRight (slotOf 8 l) and logsRightIn a (slotOf 8 l) and numbersRight clock (slotOf 8 l) and unusedZero 8 l (slotOf 8 l) and markedRight l and slotUpdateKept l)
-    ≡ busyRight controller (cellsIn controller a) clock l (slotOf 8 l)
+abbrev pub inCodeOrder : List ℕ → ℕ → List ℕ → Bool
+inCodeOrder a clock l =
+    countsRight (slotOf 8 l)
+    and logsRightIn a (slotOf 8 l)
+    and numbersRight clock (slotOf 8 l)
+    and unusedZero 8 l (slotOf 8 l)
+    and markedRight l
+    and slotUpdateKept l
+
+pub busy-order : (a : List ℕ) (clock : ℕ) (l : List ℕ) → inCodeOrder a clock l ≡ busyRight controller (cellsIn controller a) clock l (slotOf 8 l)
 unfolding busyRight logsRightIn numbersRight markedRight
 busy-order a clock l = order _ _ _ _ _ _ _ _ _ _ _
   where
