@@ -31,7 +31,9 @@
 #define TOTAL 2
 #define CELLS 3
 
-/* The monitor looks at those before this one. */
+#define FIRST_TOTAL 100
+
+/* The monitor looks at the cells before this one. */
 #define LOOKED_AT TOTAL
 
 /* The tasks, by their slots. */
@@ -74,7 +76,7 @@ static uint8_t area[CROCKTENDRIL_AREA_LENGTH(CELLS)];
 static const uint8_t descriptions[CELLS * CROCKTENDRIL_DESCRIPTION_LENGTH] = {
     CROCKTENDRIL_KIND_WHOLE, 0, 0, 0, 50, /* the setpoint */
     CROCKTENDRIL_KIND_WHOLE, 0, 0, 0, 0,  /* the valve */
-    CROCKTENDRIL_KIND_WHOLE, 0, 0, 0, 100 /* the total */
+    CROCKTENDRIL_KIND_WHOLE, 0, 0, 0, FIRST_TOTAL
 };
 
 static const struct work valve = {SETPOINT, VALVE, 2, 0, CROCKTENDRIL_STEP_RELOAD};
@@ -373,7 +375,7 @@ static int the_total_has_all(void)
 
     make(&monitor, CROCKTENDRIL_STEP_BEGIN, 0, 0);
     make(&monitor, CROCKTENDRIL_STEP_READ, TOTAL, 0);
-    has_all = has_all && monitor.answer == 100 + east_fills.plus + west_fills.plus;
+    has_all = has_all && monitor.answer == FIRST_TOTAL + east_fills.plus + west_fills.plus;
     make(&monitor, CROCKTENDRIL_STEP_GIVE_UP, 0, 0);
     printf("%s\n", has_all ? "both increments are in the total" : "an increment is lost");
     return has_all;
