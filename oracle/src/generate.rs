@@ -246,7 +246,8 @@ impl Random {
         };
         own.writes.retain(|write| machine.holder(write.cell) == 0);
         self.set_marks(own);
-        let ignoring = own.some_mark() && self.one_in(2);
+        let may_ignore = own.some_mark() && !own.some_marked_written();
+        let ignoring = may_ignore && self.one_in(2);
         own.phase = Phase::Twilight(Commit { stamp, ignoring });
     }
 
@@ -258,6 +259,10 @@ impl Random {
             return;
         };
         self.set_marks(own);
+        let writes: Vec<u8> = own.writes.iter().map(|write| write.cell).collect();
+        for read in &mut own.reads {
+            read.marked &= !writes.contains(&read.cell);
+        }
         let ignoring = own.some_mark();
         let unpublished = self.between(1, free as u64) as usize;
         own.phase = Phase::Publishing {

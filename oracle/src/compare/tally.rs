@@ -22,7 +22,7 @@ pub struct Tally {
     bad: u64,
     with_a_commit: u64,
     full: u64,
-    codes: [u64; 15],
+    codes: [u64; 16],
     done: [u64; 15],
     marks: u64,
     ignores: u64,

@@ -18,7 +18,7 @@ const OBSTACLES: [u64; obstacles::COUNTED] = [1500, 200, 70, 70, 100, 150, 5, 60
 /// Counts of the calls that were answered alike.
 #[derive(Clone, Debug, Default)]
 pub struct Tally {
-    codes: [u64; 15],
+    codes: [u64; 16],
     done: [u64; 15],
     marks: u64,
     ignores: u64,

@@ -9,7 +9,7 @@ use crate::examples::{FOLDER, NAMES};
 const PICTURES: &str = concat!(env!("CARGO_MANIFEST_DIR"), "/../docs/img");
 
 /// Those under `docs/img`.
-const COMMITTED: [&str; 4] = ["blocked", "race", "reload", "s"];
+const COMMITTED: [&str; 5] = ["blocked", "race", "reload", "s", "totaliser"];
 
 fn example(name: &str) -> Vec<u8> {
     std::fs::read(format!("{FOLDER}/{name}.txt")).expect("an example")
