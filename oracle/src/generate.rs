@@ -184,6 +184,9 @@ impl Random {
             Phase::Locking { taken } if taken < own.writes.len() => &[Lock],
             Phase::Locking { .. } => &[Enter],
             Phase::Twilight(_) if self.one_in(20) => &[GiveUp],
+            Phase::Twilight(Commit { ignoring: false, .. }) if own.some_mark() => {
+                &[Reread, Update, Ask, Reload, Ignore, Ignore, Finish]
+            }
             Phase::Twilight(_) => &[Reread, Update, Ask, Reload, Ignore, Finish, Finish],
             Phase::Publishing { .. } => &[Publish],
         };
@@ -194,6 +197,10 @@ impl Random {
         let logged: Vec<u8> = match (step, own) {
             (Step::Reread | Step::Ask, Some(own)) => own.reads.iter().map(|r| r.cell).collect(),
             (Step::Update, Some(own)) => own.writes.iter().map(|w| w.cell).collect(),
+            // Counting up writes what was read.
+            (Step::Write, Some(own)) if self.one_in(3) => {
+                own.reads.iter().map(|r| r.cell).collect()
+            }
             _ => Vec::new(),
         };
         if logged.is_empty() || self.one_in(10) {
@@ -221,7 +228,7 @@ impl Random {
     }
 
     /// Entries for some cells in any order, each cell at most once.
-    fn logged<T>(&mut self, machine: &Machine, entry: fn(u8, Value) -> T) -> Vec<T> {
+    pub(crate) fn logged<T>(&mut self, machine: &Machine, entry: fn(u8, Value) -> T) -> Vec<T> {
         let mut left: Vec<u8> = (0..machine.cells.len() as u8).collect();
         let most = left.len().min(Transaction::LOG_ROOM) as u64;
         let count = if self.one_in(8) { most } else { self.up_to(most) };
@@ -279,7 +286,7 @@ impl Random {
     }
 
     /// A commit stamp above start that no other slot has, if one is found.
-    fn commit_stamp(&mut self, own: &Transaction, machine: &Machine) -> Option<u64> {
+    pub(crate) fn commit_stamp(&mut self, own: &Transaction, machine: &Machine) -> Option<u64> {
         let least = own.start.checked_add(1)?;
         let commits = machine.transactions().filter_map(|(_, other)| other.commit());
         let others: Vec<u64> = commits.map(|commit| commit.stamp).collect();

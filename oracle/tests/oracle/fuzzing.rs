@@ -13,6 +13,11 @@ type LayOut = fn(&mut [u8], &[u8]) -> u64;
 /// As many calls as the least counts are for.
 const CALLS: u64 = 250_000;
 
+/// How many sorts of rounds there are, which take turns. The first is of steps
+/// from a fresh area, and the last four are of lay-outs and of the wear task.
+const SORTS: usize = 11;
+const LAY_OUTS: u64 = 7;
+
 const RIGHT: Library = Library { step, lay_out: lay_out_on_bytes, wear: wear_on_bytes };
 
 /// Each is wrong in one way.
@@ -176,7 +181,7 @@ fn the_wear_task_as_a_list_of_calls_is_right() {
     let library = Library { wear, ..RIGHT };
     let mut tally = Tally::default();
     // Rounds of the last three sorts only.
-    for round in (0..2000).filter(|round| round % 10 >= 7) {
+    for round in (0..2000).filter(|round| round % SORTS as u64 > LAY_OUTS) {
         one_round(library, 1, round, &mut tally).unwrap_or_else(|failure| panic!("{failure}"));
     }
     let short = tally.short();
@@ -187,7 +192,7 @@ fn the_wear_task_as_a_list_of_calls_is_right() {
 fn a_run_that_reaches_little_is_told_so() {
     let mut tally = Tally::default();
     // Rounds of the first sort only, and so many that no least count is 0.
-    for round in (0..8000).step_by(10) {
+    for round in (0..8000).step_by(SORTS) {
         one_round(RIGHT, 1, round, &mut tally).unwrap_or_else(|failure| panic!("{failure}"));
     }
     let short = tally.short();
@@ -211,7 +216,7 @@ fn a_run_that_reaches_little_is_told_so() {
 #[test]
 fn a_run_with_no_one_in_the_way_is_told_so() {
     let mut tally = Tally::default();
-    for round in (6..20_000).step_by(10) {
+    for round in (LAY_OUTS..20_000).step_by(SORTS) {
         one_round(RIGHT, 1, round, &mut tally).unwrap_or_else(|failure| panic!("{failure}"));
     }
     let short = tally.short();

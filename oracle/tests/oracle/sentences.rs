@@ -43,6 +43,25 @@ const HOLDER: usize = 15;
 const OPEN: [&str; 4] = ["begin 1", "read 1 0", "read 1 2", "write 1 0 whole 6"];
 const LOCKED: [&str; 4] = ["begin 1", "write 1 0 whole 6", "close 1", "lock 1"];
 const TWILIGHT: [&str; 4] = ["begin 1", "read 1 0", "close 1", "enter 1"];
+/// Cells 0 and 2 are read and marked, cell 0 is written, too.
+const MARKED: [&str; 16] = [
+    "begin 1",
+    "read 1 0",
+    "read 1 2",
+    "write 1 0 whole 6",
+    "begin 2",
+    "write 2 0 whole 8",
+    "write 2 2 whole 9",
+    "close 2",
+    "lock 2",
+    "lock 2",
+    "enter 2",
+    "finish 2",
+    "publish 2",
+    "publish 2",
+    "close 1",
+    "lock 1",
+];
 const PUBLISHING: [&str; 7] =
     ["begin 1", "read 1 2", "write 1 0 whole 6", "close 1", "lock 1", "enter 1", "finish 1"];
 
