@@ -117,10 +117,10 @@ impl Random {
     /// A machine that random steps from a fresh one have led to.
     pub fn reached(&mut self) -> Option<Machine> {
         let n = self.cell_count();
-        let mut machine = Machine::fresh(&self.values(n))?;
-        let habit = self.habit();
+        let tasks = self.tasks();
+        let mut machine = Machine::fresh(&self.values_for(tasks, n))?;
         for _ in 0..self.between(20, 120) {
-            let call = self.likely_call(&machine, habit);
+            let call = self.call_of(tasks, &machine);
             machine.step(call);
         }
         Some(machine)

@@ -3,7 +3,7 @@
 
 use crate::call::{Call, Reply, Step};
 use crate::counts::Count;
-use crate::machine::{Machine, Transaction, SLOTS};
+use crate::machine::{Machine, Read, Transaction, Write, SLOTS};
 
 /// How many counts there are, and so how many least ones.
 pub(crate) const COUNTED: usize = 11;
@@ -62,8 +62,8 @@ impl Ignores {
             return;
         };
         self.one_of_several += 1;
-        let read = |entry: Option<&crate::Read>| entry.is_some_and(|read| read.cell == *cell);
-        let write = |entry: Option<&crate::Write>| entry.is_some_and(|write| write.cell == *cell);
+        let read = |entry: Option<&Read>| entry.is_some_and(|read| read.cell == *cell);
+        let write = |entry: Option<&Write>| entry.is_some_and(|write| write.cell == *cell);
         let several_writes = own.writes.len() > 1;
         self.first_read += u64::from(read(own.reads.first()));
         self.last_read += u64::from(read(own.reads.last()));

@@ -26,6 +26,7 @@ pub mod area;
 pub mod binary;
 pub mod call;
 pub mod compare;
+pub mod counting;
 pub mod fuzz;
 pub mod generate;
 pub mod inplace;

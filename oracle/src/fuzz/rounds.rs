@@ -97,12 +97,12 @@ impl Round<'_> {
     /// Steps one after the other, from a fresh area with another clock.
     fn walk(&mut self, clock: u64, steps: u64) -> Made {
         let n = self.random.cell_count();
-        let values = self.random.values(n);
+        let tasks = self.random.tasks();
+        let values = self.random.values_for(tasks, n);
         let (mut area, mut machine) = self.fresh(&values, clock)?;
-        let habit = self.random.habit();
         let mut repairs = Repairs::default();
         for _ in 0..steps {
-            let call = self.random.likely_call(&machine, habit);
+            let call = self.random.call_of(tasks, &machine);
             self.step(&mut area, call)?;
             let before = machine.clone();
             let reply = machine.step(call);

@@ -41,7 +41,7 @@ fn what_is_right_passes() {
     let last = lines.last().expect("a line");
     assert!(last.starts_with("compare: ") && last.ends_with(" inputs answered alike, seed 3"));
     assert_eq!(output.status.code(), Some(0), "{lines:?}");
-    assert!(lines.contains(&"compare: 14 examples".to_string()), "{lines:?}");
+    assert!(lines.contains(&"compare: 15 examples".to_string()), "{lines:?}");
 }
 
 #[test]

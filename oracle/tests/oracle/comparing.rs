@@ -8,6 +8,7 @@ use oracle::{describe, lay_out_on_bytes, run, BadSheet, Sheet};
 use crate::fuzzing::{step, StepOnBytes, IN_THE_WAY, WRONG_STEPS};
 use crate::peek::Peek;
 use crate::sheets::s_binary;
+use crate::wrong_ignores::{STRICT_CHECKS, WRONG_FLAGS, WRONG_IGNORES};
 use crate::wrong_obstacles::WRONG_OBSTACLES;
 
 type Program = fn(&Case) -> Given;
@@ -313,11 +314,20 @@ fn every_wrong_core_is_caught() {
 /// By the sheets at the edges alone, without a random one.
 #[test]
 fn every_wrong_word_on_who_is_in_the_way_is_caught() {
-    for (name, wrong) in WRONG_OBSTACLES {
-        let failure = compared(&|case| run_on_area(case, wrong), 0).expect_err(name);
-        let is_edge = edge_sheets().iter().any(|case| case.name == failure.case.name);
-        assert!(is_edge, "{name}: {}", failure.case.name);
-    }
+    WRONG_OBSTACLES.iter().for_each(caught_at_the_edges);
+}
+
+/// Likewise. What only a damaged area shows is out of reach of a sheet.
+#[test]
+fn every_wrong_ignore_is_caught() {
+    let wrong = WRONG_IGNORES.iter().chain(&WRONG_FLAGS).chain(&STRICT_CHECKS);
+    wrong.for_each(caught_at_the_edges);
+}
+
+fn caught_at_the_edges((name, wrong): &(&str, StepOnBytes)) {
+    let failure = compared(&|case| run_on_area(case, *wrong), 0).expect_err(name);
+    let is_edge = edge_sheets().iter().any(|case| case.name == failure.case.name);
+    assert!(is_edge, "{name}: {}", failure.case.name);
 }
 
 #[test]

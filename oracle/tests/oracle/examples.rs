@@ -196,7 +196,7 @@ fn every_code_from_2_to_11_with_14_and_15() {
     // newer by then.
     let reads = [refused(4), whole(5), refused(9), read_held(2), refused(10)];
     assert_eq!(shown.answers("read 1 0"), reads);
-    assert_eq!(shown.answers("lock 1"), [held_by_another(3, 2)]);
+    assert_eq!(shown.answers("lock 1"), [DONE, held_by_another(3, 2)]);
     assert_eq!(shown.rest[0], "cell 0 2 00000009 4 0");
     assert_eq!(shown.rest[3], "cell 3 2 00000003 0 2");
 }

@@ -5,6 +5,7 @@ use oracle::{lay_out_on_bytes, step_in_place, step_on_bytes, wear_in_place, wear
 
 use crate::peek::Peek;
 use crate::slips::{self, Slip, Wear, BAD_SETS_TAKEN, SLIPS};
+use crate::wrong_ignores::{LENIENT_CHECKS, STRICT_CHECKS, WRONG_FLAGS, WRONG_IGNORES};
 use crate::wrong_obstacles::WRONG_OBSTACLES;
 
 pub type StepOnBytes = fn(&mut [u8], Call) -> u64;
@@ -240,6 +241,24 @@ fn every_wrong_word_on_who_is_in_the_way_is_caught() {
         println!("{name}: round {}", failure.round);
         let is_answer = failure.report.contains("answer: wanted code");
         assert!(is_answer && !failure.report.contains("its byte"), "{name}: {failure}");
+    }
+}
+
+#[test]
+fn every_wrong_ignore_is_caught() {
+    for &(name, step) in WRONG_IGNORES.iter().chain(&WRONG_FLAGS).chain(&STRICT_CHECKS) {
+        let failure = run(Library { step, ..RIGHT }, 50_000).expect_err(name);
+        println!("{name}: round {}", failure.round);
+    }
+}
+
+/// At an area that loses an update, and not by chance at something else.
+#[test]
+fn every_update_that_may_be_lost_is_caught() {
+    for (name, step) in LENIENT_CHECKS {
+        let failure = run(Library { step, ..RIGHT }, 50_000).expect_err(name);
+        println!("{name}: round {}", failure.round);
+        assert!(failure.report.contains("answer: wanted code 1, kind 0"), "{name}: {failure}");
     }
 }
 

@@ -26,4 +26,5 @@ mod timelines;
 mod walks;
 mod wear;
 mod wear_header;
+mod wrong_ignores;
 mod wrong_obstacles;
