@@ -14,7 +14,7 @@ use crate::obstacles::{self, Obstacles};
 const LEAST_COUNTS_ARE_FOR: u64 = 2_000;
 
 /// The least counts of steps with another slot in the way.
-const OBSTACLES: [u64; obstacles::COUNTED] = [4000, 200, 12, 12, 30, 90, 60, 200, 150];
+const OBSTACLES: [u64; obstacles::COUNTED] = [4000, 200, 12, 12, 30, 90, 150, 200, 150];
 
 /// The least counts of ignores and of what comes of them.
 const IGNORES: [u64; ignores::COUNTED] = [1; ignores::COUNTED];

@@ -234,44 +234,49 @@ pub fn without_the_clause(area: &mut [u8], call: Call) -> u64 {
 /// Marks that are not seen are taken off, and the flag with the last of them.
 /// After the step they are put back, unless the slot has ended or reloaded.
 fn lenient(area: &mut [u8], call: Call, sees: Judge) -> u64 {
-    let mut hidden = area.to_vec();
-    let mut changed = Vec::new();
-    if has_slots(area) {
-        let peek = Peek(area);
-        for slot in (1..=8).filter(|slot| peek.flag(*slot) == 1 && !sees(&peek, *slot)) {
-            changed.extend(hide(&mut hidden, &peek, slot).map(|at| (slot, at)));
-        }
-    }
-    if changed.is_empty() || !peek::well_formed(&hidden) {
+    if !loses_updates_alone(area) {
         return step(area, call);
     }
-    let number = step(&mut hidden, call);
-    for (slot, at) in changed {
-        let ends = Peek(&hidden).phase(slot) < 3 || (call.step, call.slot) == (10, slot);
-        hidden[at] = if ends { hidden[at] } else { 1 };
+    let peek = Peek(area);
+    let unseen = (1..=8).filter(|slot| peek.flag(*slot) == 1 && !sees(&peek, *slot));
+    let hidden: Vec<(u8, usize)> = unseen.flat_map(|slot| lost_marks(&peek, slot)).collect();
+    hidden.iter().for_each(|(_, at)| area[*at] = 0);
+    let number = step(area, call);
+    for (slot, at) in hidden {
+        let ended = Peek(area).phase(slot) < 3;
+        let reloaded = number == 0 && (call.step, call.slot) == (10, slot);
+        area[at] = if ended || reloaded { area[at] } else { 1 };
     }
-    area.copy_from_slice(&hidden);
     number
 }
 
-/// Whether the length is that of some n, so that the slots can be looked at.
-fn has_slots(area: &[u8]) -> bool {
-    area.len() > 1590 && area.len() == 1590 + 14 * Peek(area).n()
+/// Whether the area is well formed but for updates that are lost.
+fn loses_updates_alone(area: &[u8]) -> bool {
+    if area.len() <= 1590 || area.len() != 1590 + 14 * Peek(area).n() {
+        return false;
+    }
+    let mut without = area.to_vec();
+    let places: Vec<usize> =
+        (1..=8).flat_map(|slot| lost_marks(&Peek(area), slot)).map(|(_, at)| at).collect();
+    places.iter().for_each(|at| without[*at] = 0);
+    !places.is_empty() && peek::well_formed(&without)
 }
 
-/// Takes the marks off, and says at which places a 1 was.
-fn hide(area: &mut [u8], peek: &Peek, slot: u8) -> impl Iterator<Item = usize> {
+/// The places of marks on cells that are written, in a slot with the flag; and
+/// that of the flag, if there is no other mark.
+fn lost_marks(peek: &Peek, slot: u8) -> Vec<(u8, usize)> {
     let lost = peek.marked_and_written(slot);
-    let entries = (0..16).map(|entry| peek.read_at(slot, entry));
-    let mut places: Vec<usize> =
-        entries.filter(|at| area[at + 1] == 1 && lost.contains(&usize::from(area[*at]))).collect();
-    places.iter_mut().for_each(|at| *at += 1);
-    places.iter().for_each(|at| area[*at] = 0);
-    if !Peek(area).marks(slot).contains(&1) && !places.is_empty() {
-        places.push(peek.slot_at(slot) + FLAG);
-        area[peek.slot_at(slot) + FLAG] = 0;
+    if peek.flag(slot) != 1 || lost.is_empty() {
+        return Vec::new();
     }
-    places.into_iter()
+    let entries = (0..16).map(|entry| peek.read_at(slot, entry));
+    let lost_entries =
+        entries.filter(|at| peek.0[at + 1] == 1 && lost.contains(&usize::from(peek.0[*at])));
+    let mut places: Vec<(u8, usize)> = lost_entries.map(|at| (slot, at + 1)).collect();
+    if lost == peek.marked_cells(slot) {
+        places.push((slot, peek.slot_at(slot) + FLAG));
+    }
+    places
 }
 
 /// Ignore and the check as they were before the request.
