@@ -48,34 +48,21 @@ impl Random {
         }
     }
 
-    /// Every second cell is counted up by whoever reads it.
+    /// Every slot counts up every second cell that it reads, even slots the even
+    /// ones: what one only reads another one counts up.
     fn counting_call(&mut self, machine: &Machine, slots: u8) -> Call {
-        use Step::*;
         let slot = self.between(1, u64::from(slots)) as u8;
-        let Some(own) = machine.slot(slot) else {
-            return bare(Begin, slot);
-        };
-        match own.phase {
-            Phase::Open => self.counting_open(machine, own, slot),
-            Phase::Locking { taken } if taken == own.writes.len() => bare(Enter, slot),
-            Phase::Locking { .. } if self.one_in(20) => bare(GiveUp, slot),
-            Phase::Locking { .. } => bare(Lock, slot),
-            Phase::Twilight(commit) if own.some_mark() && !commit.ignoring => {
-                let steps = [Ignore, Ignore, Reload, Reload, Finish, GiveUp];
-                bare(self.pick(&steps).unwrap_or(Ignore), slot)
-            }
-            Phase::Twilight(_) if self.one_in(12) => bare(Ignore, slot),
-            Phase::Twilight(_) => {
-                let wrong = counted_up(own).find(|next| !own.writes.contains(next));
-                wrong.map_or(bare(Finish, slot), |next| bringing(Update, slot, next))
-            }
-            Phase::Publishing { .. } => bare(Publish, slot),
+        match machine.slot(slot) {
+            None => bare(Step::Begin, slot),
+            Some(own) if own.phase == Phase::Open => self.counting_open(machine, own, slot),
+            Some(own) => self.call_to_commit(own, slot),
         }
     }
 
     fn counting_open(&mut self, machine: &Machine, own: &Transaction, slot: u8) -> Call {
-        let missing = counted_up(own).find(|next| own.write_of(next.cell).is_none());
-        match missing {
+        let mut counted = own.reads.iter().filter(|read| read.cell % 2 == slot % 2);
+        let missing = counted.find(|read| own.write_of(read.cell).is_none());
+        match missing.and_then(|read| counted_up(own, read.cell)) {
             Some(next) => bringing(Step::Write, slot, next),
             None if own.reads.is_empty() || self.one_in(2) => {
                 let cell = self.place(machine.cells().len()) as u8;
@@ -85,16 +72,37 @@ impl Random {
             None => bare(Step::Close, slot),
         }
     }
+
+    /// The next step towards the commit of what was counted up. Marks are
+    /// ignored, reloaded or left, and what was reloaded is counted up again.
+    pub fn call_to_commit(&mut self, own: &Transaction, slot: u8) -> Call {
+        use Step::*;
+        match own.phase {
+            Phase::Open => bare(Close, slot),
+            Phase::Locking { taken } if taken == own.writes.len() => bare(Enter, slot),
+            Phase::Locking { .. } if self.one_in(20) => bare(GiveUp, slot),
+            Phase::Locking { .. } => bare(Lock, slot),
+            Phase::Twilight(commit) if own.some_mark() && !commit.ignoring => {
+                let steps = [Ignore, Ignore, Reload, Reload, Finish, GiveUp];
+                bare(self.pick(&steps).unwrap_or(Ignore), slot)
+            }
+            Phase::Twilight(_) if self.one_in(12) => bare(Ignore, slot),
+            Phase::Twilight(_) => {
+                let next = own.writes.iter().filter_map(|write| counted_up(own, write.cell));
+                let wrong = next.into_iter().find(|next| !own.writes.contains(next));
+                wrong.map_or(bare(Finish, slot), |next| bringing(Update, slot, next))
+            }
+            Phase::Publishing { .. } => bare(Publish, slot),
+        }
+    }
 }
 
-/// The entries that are to be written after what was read.
-fn counted_up(own: &Transaction) -> impl Iterator<Item = Write> + '_ {
-    let counted = own.reads.iter().filter(|read| read.cell.is_multiple_of(2));
-    let counted = counted.filter(|read| read.value.kind() == Kind::Whole);
-    counted.map(|read| {
-        let more = (read.value.word() as i32).wrapping_add(1);
-        Write { cell: read.cell, value: Value::Whole(more) }
-    })
+/// What is to be written after the whole number that was read of a cell.
+fn counted_up(own: &Transaction, cell: u8) -> Option<Write> {
+    match own.read_of(cell)?.value {
+        Value::Whole(read) => Some(Write { cell, value: Value::Whole(read.wrapping_add(1)) }),
+        _ => None,
+    }
 }
 
 fn bare(step: Step, slot: u8) -> Call {

@@ -18,7 +18,10 @@ const LEAST_COUNTS_ARE_FOR: u64 = 250_000;
 const OBSTACLES: [u64; obstacles::COUNTED] = [1500, 200, 70, 70, 100, 150, 5, 60, 25];
 
 /// The least counts of ignores and of what comes of them.
-const IGNORES: [u64; ignores::COUNTED] = [1; ignores::COUNTED];
+const IGNORES: [u64; ignores::COUNTED] = [1500, 600, 90, 80, 100, 100, 500, 1500, 150, 60, 4];
+
+/// The least counts of areas that lose an update, in the order of their names.
+const LOST: [u64; Lost::ALL.len()] = [1300, 900, 400];
 
 /// Counts of the calls that were answered alike.
 #[derive(Clone, Debug, Default)]
@@ -98,7 +101,11 @@ impl Tally {
     fn counts(&self) -> Vec<Count> {
         let mut counts: Vec<Count> = Vec::new();
         for (code, count) in self.codes.iter().enumerate() {
-            let least = if code == 14 { 600 } else { 100 };
+            let least = match code {
+                14 => 600,
+                15 => 1500,
+                _ => 100,
+            };
             counts.push((format!("code {code}"), *count, least));
         }
         for (step, count) in self.done.iter().enumerate().skip(1) {
@@ -113,13 +120,13 @@ impl Tally {
             ("reloads", self.done[10], 400),
             ("aborts", self.codes[13], 100),
             ("damaged and still well formed", self.still_well_formed, 2000),
-            ("the flag set, 16 marked reads and 16 writes", self.full_and_apart, 1),
+            ("the flag set, 16 marked reads and 16 writes", self.full_and_apart, 500),
         ];
         counts.extend(named.map(|(name, count, least)| (name.to_string(), count, least)));
         counts.extend(self.obstacles.counts(OBSTACLES));
         counts.extend(self.ignores.counts(IGNORES));
-        for (way, count) in Lost::ALL.into_iter().zip(self.lost) {
-            counts.push((format!("an update lost, {}", way.name()), count, 1));
+        for ((lost, count), least) in Lost::ALL.into_iter().zip(self.lost).zip(LOST) {
+            counts.push((format!("an update lost, {}", lost.name()), count, least));
         }
         for (sentence, count) in sentences().zip(self.alone) {
             counts.push((format!("broken alone: {sentence}"), count, 5));

@@ -68,7 +68,7 @@ fn step(bench: &mut Bench, call: Call, ledger: &mut Ledger, tally: &mut Tally) {
     if [0, 13].contains(&answer.0) {
         effects::check(&before, bench, call, answer);
     }
-    ledger.note(&before.machine, call, answer);
+    ledger.note(&before.peek(), call, answer.0);
     tally.note(&before, call, answer);
 }
 
@@ -88,18 +88,18 @@ fn walks_from_a_fresh_area_keep_every_rule() {
     for seed in 0..400 {
         let mut random = Random::new(seed);
         let n = random.cell_count();
-        let mut bench = Bench::fresh(&random.values(n));
+        let tasks = random.tasks();
+        let mut bench = Bench::fresh(&random.values_for(tasks, n));
         if random.one_in(4) {
             bench = bench.at_clock(u64::MAX - random.up_to(40));
         }
-        let habit = random.habit();
-        let mut ledger = Ledger::new(&bench.machine);
+        let mut ledger = Ledger::new(&bench.peek());
         for _ in 0..400 {
-            let call = random.likely_call(&bench.machine, habit);
+            let call = random.call_of(tasks, &bench.machine);
             step(&mut bench, call, &mut ledger, &mut tally);
         }
         come_to_rest(&mut bench, &mut ledger, &mut tally);
-        ledger.replay(&bench.machine);
+        ledger.replay(&bench.peek());
     }
     tally.check();
 }

@@ -252,14 +252,20 @@ fn lenient(area: &mut [u8], call: Call, sees: Judge) -> u64 {
 
 /// Whether the area is well formed but for updates that are lost.
 fn loses_updates_alone(area: &[u8]) -> bool {
-    if area.len() <= 1590 || area.len() != 1590 + 14 * Peek(area).n() {
-        return false;
+    let has_slots = area.len() > 1590 && area.len() == 1590 + 14 * Peek(area).n();
+    has_slots && {
+        let hidden = with_lost_marks_hidden(area);
+        hidden != area && peek::well_formed(&hidden)
     }
-    let mut without = area.to_vec();
-    let places: Vec<usize> =
-        (1..=8).flat_map(|slot| lost_marks(&Peek(area), slot)).map(|(_, at)| at).collect();
-    places.iter().for_each(|at| without[*at] = 0);
-    !places.is_empty() && peek::well_formed(&without)
+}
+
+/// The area as who does not see that updates are lost may take it.
+pub fn with_lost_marks_hidden(area: &[u8]) -> Vec<u8> {
+    let mut hidden = area.to_vec();
+    for (_, at) in (1..=8).flat_map(|slot| lost_marks(&Peek(area), slot)) {
+        hidden[at] = 0;
+    }
+    hidden
 }
 
 /// The places of marks on cells that are written, in a slot with the flag; and
