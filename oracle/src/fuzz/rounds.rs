@@ -6,6 +6,7 @@ use super::{Library, Tally};
 use crate::area::{area_length, lay_out_on_bytes, step_on_bytes};
 use crate::binary::{describe, DESCRIPTION_LENGTH};
 use crate::call::Call;
+use crate::counting::Tasks;
 use crate::generate::Habit;
 use crate::ignores::Repairs;
 use crate::machine::Machine;
@@ -56,7 +57,7 @@ impl Sort {
             Sort::Damage => "areas with one to three bytes changed",
             Sort::Junk => "junk of any length",
             Sort::EveryStepAndSlot => "every step and slot on one area",
-            Sort::Flagged => "slots with marks, and with the flag on them",
+            Sort::Flagged => "slots with marks and with the flag, and tasks that count up",
             Sort::LayOut => "lay-outs",
             Sort::WearWalk => "tasks that level, from a fresh area",
             Sort::WearAnyArea => "wear tasks on any well-formed areas",
@@ -86,7 +87,11 @@ impl Round<'_> {
             Sort::Damage => (0..8).try_for_each(|_| self.damage()),
             Sort::Junk => self.junk(),
             Sort::EveryStepAndSlot => self.every_step_and_slot(),
-            Sort::Flagged => (0..50).try_for_each(|_| self.flagged()),
+            Sort::Flagged => {
+                (0..30).try_for_each(|_| self.flagged())?;
+                let n = self.random.between(1, 4) as usize;
+                self.walk_of(Tasks::CountUp { slots: 5 }, n, 0, 150)
+            }
             Sort::LayOut => self.lay_outs(),
             Sort::WearWalk => self.tasks_that_level(),
             Sort::WearAnyArea => (0..35).try_for_each(|_| self.level_on_any_area()),
@@ -98,6 +103,10 @@ impl Round<'_> {
     fn walk(&mut self, clock: u64, steps: u64) -> Made {
         let n = self.random.cell_count();
         let tasks = self.random.tasks();
+        self.walk_of(tasks, n, clock, steps)
+    }
+
+    fn walk_of(&mut self, tasks: Tasks, n: usize, clock: u64, steps: u64) -> Made {
         let values = self.random.values_for(tasks, n);
         let (mut area, mut machine) = self.fresh(&values, clock)?;
         let mut repairs = Repairs::default();

@@ -18,10 +18,10 @@ const LEAST_COUNTS_ARE_FOR: u64 = 250_000;
 const OBSTACLES: [u64; obstacles::COUNTED] = [1500, 200, 70, 70, 100, 150, 5, 60, 25];
 
 /// The least counts of ignores and of what comes of them.
-const IGNORES: [u64; ignores::COUNTED] = [1500, 600, 90, 80, 100, 100, 500, 1500, 150, 60, 4];
+const IGNORES: [u64; ignores::COUNTED] = [1000, 400, 60, 60, 70, 60, 400, 1000, 200, 80, 15];
 
 /// The least counts of areas that lose an update, in the order of their names.
-const LOST: [u64; Lost::ALL.len()] = [1300, 900, 400];
+const LOST: [u64; Lost::ALL.len()] = [900, 600, 300];
 
 /// Counts of the calls that were answered alike.
 #[derive(Clone, Debug, Default)]
@@ -103,7 +103,7 @@ impl Tally {
         for (code, count) in self.codes.iter().enumerate() {
             let least = match code {
                 14 => 600,
-                15 => 1500,
+                15 => 1000,
                 _ => 100,
             };
             counts.push((format!("code {code}"), *count, least));
@@ -120,7 +120,7 @@ impl Tally {
             ("reloads", self.done[10], 400),
             ("aborts", self.codes[13], 100),
             ("damaged and still well formed", self.still_well_formed, 2000),
-            ("the flag set, 16 marked reads and 16 writes", self.full_and_apart, 500),
+            ("the flag set, 16 marked reads and 16 writes", self.full_and_apart, 300),
         ];
         counts.extend(named.map(|(name, count, least)| (name.to_string(), count, least)));
         counts.extend(self.obstacles.counts(OBSTACLES));

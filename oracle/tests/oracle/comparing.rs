@@ -5,7 +5,7 @@ use oracle::compare::{bad_sheets, compare, cut_sheets, edge_sheets, long_inputs,
 use oracle::compare::{Case, Ended, Failure, Given, Plan, Stopped, Tally};
 use oracle::{describe, lay_out_on_bytes, run, BadSheet, Sheet};
 
-use crate::fuzzing::{step, StepOnBytes, IN_THE_WAY, WRONG_STEPS};
+use crate::fuzzing::{step, StepOnBytes, IGNORED, IN_THE_WAY, WRONG_STEPS};
 use crate::peek::Peek;
 use crate::sheets::s_binary;
 use crate::wrong_ignores::{STRICT_CHECKS, WRONG_FLAGS, WRONG_IGNORES};
@@ -284,8 +284,8 @@ fn what_is_right_passes_and_every_least_count_is_reached() {
 fn a_run_that_reaches_little_is_told_so() {
     let tally = compared(&|case| prints(right(case)), 40).unwrap_or_else(|fail| panic!("{fail}"));
     let short = tally.short(2_000);
-    let others = ["commits", "enters that mark", "reloads", "ignores", "aborts", "random sheets"];
-    for name in IN_THE_WAY.into_iter().chain(others) {
+    let others = ["commits", "enters that mark", "reloads", "aborts", "random sheets"];
+    for name in IN_THE_WAY.into_iter().chain(IGNORED).chain(others) {
         assert!(short.iter().any(|line| line.starts_with(name)), "{name}: {short:?}");
     }
 }

@@ -237,6 +237,22 @@ fn sheet_s_at_the_steps_that_matter() {
     assert_eq!(drawing.words_at(21), ["publish", "cell 1", ":= 10"]);
 }
 
+/// The first cell that is marked and written is told at the step, and what the
+/// code means in the legend.
+#[test]
+fn the_totaliser_at_the_steps_that_matter() {
+    let case = Case::example("totaliser");
+    let drawing = Drawing::of(&case.svg);
+    assert_eq!(drawing.words_at(14), ["mark 0", "stamp 2", "enter", "cell 0", "is newer"]);
+    assert_eq!(drawing.words_at(15), ["code 15", "ignore", "cell 0", "is written"]);
+    assert_eq!(drawing.words_at(16), ["stamp 3", "reload", "no marks"]);
+    assert_eq!(drawing.words_at(18), ["update", "cell 0", ":= 107"]);
+    assert_eq!(drawing.words_at(20), ["publish", "cell 0", ":= 107"]);
+    let meaning = "some marked cell is also in the slot's write log";
+    assert!(drawing.texts.iter().any(|text| text.words == meaning));
+    assert!(case.plain.contains(&format!("\ncode 15: {meaning}\n")));
+}
+
 #[test]
 fn the_plain_form_of_a_short_sheet() {
     let sheet = b"# Two: one loses.\ncell whole 5\nbegin 1\nwrite 1 0 whole 6\nclose 1\nlock 1\n\
