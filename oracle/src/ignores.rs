@@ -113,19 +113,21 @@ enum Repair {
 }
 
 impl Repairs {
-    /// Notes a step with the machine before it, and says whether a transaction
-    /// has so committed: after 15 it has reloaded, updated a cell that was
-    /// marked and written, and finished.
-    pub fn note(&mut self, before: &Machine, call: Call, reply: Reply) -> bool {
+    /// Notes a step, and says whether a transaction has so committed: after 15
+    /// it has reloaded, updated a cell that was marked and written, and finished.
+    /// The machine is looked at after 15 alone, which changes nothing, so it is
+    /// no matter whether this is the machine before or after.
+    pub fn note(&mut self, machine: &Machine, call: Call, reply: Reply) -> bool {
         let place = usize::from(call.slot).wrapping_sub(1);
-        let (Some(own), Some(repair)) = (before.slot(call.slot), self.slots.get_mut(place)) else {
+        let Some(repair) = self.slots.get_mut(place) else {
             return false;
         };
         let was = std::mem::take(repair);
         let done = reply.code() == 0;
         *repair = match (was, Step::numbered(call.step)) {
             (_, Some(Step::Ignore)) if reply.code() == 15 => {
-                Repair::Refused(own.marked_written().collect())
+                let own = machine.slot(call.slot);
+                Repair::Refused(own.into_iter().flat_map(Transaction::marked_written).collect())
             }
             (Repair::Refused(cells), Some(Step::Reload)) if done => Repair::Reloaded(cells),
             (Repair::Reloaded(cells), Some(Step::Update)) if done && cells.contains(&call.cell) => {

@@ -17,7 +17,7 @@ const LEAST_COUNTS_ARE_FOR: u64 = 2_000;
 const OBSTACLES: [u64; obstacles::COUNTED] = [4000, 200, 12, 12, 30, 90, 150, 200, 150];
 
 /// The least counts of ignores and of what comes of them.
-const IGNORES: [u64; ignores::COUNTED] = [400, 70, 25, 14, 3, 10, 160, 100, 600, 130, 30];
+const IGNORES: [u64; ignores::COUNTED] = [400, 70, 25, 14, 3, 9, 160, 100, 600, 130, 30];
 
 /// Counts of what was compared and found alike.
 #[derive(Clone, Debug, Default)]
@@ -60,10 +60,10 @@ impl Tally {
     }
 
     fn note_step(&mut self, machine: &mut Machine, call: Call, repairs: &mut Repairs) {
-        let before = machine.clone();
+        let before = Ignores::is_about(call.step).then(|| machine.clone());
         let reply = machine.step(call);
-        self.ignores.note(&before, call, reply.code());
-        if repairs.note(&before, call, reply) {
+        before.iter().for_each(|before| self.ignores.note(before, call, reply.code()));
+        if repairs.note(machine, call, reply) {
             self.ignores.note_repair();
         }
         self.codes[usize::from(reply.code())] += 1;

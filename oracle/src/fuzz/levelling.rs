@@ -71,7 +71,7 @@ impl Round<'_> {
         self.step(&mut walk.area, call)?;
         let before = walk.machine.clone();
         let reply = walk.machine.step(call);
-        let repaired = walk.repairs.note(&before, call, reply);
+        let repaired = walk.repairs.note(&walk.machine, call, reply);
         let place = usize::from(call.slot).wrapping_sub(1);
         let Some(levelled) = walk.levelled.get_mut(place) else {
             return Ok(());

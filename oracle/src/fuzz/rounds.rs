@@ -113,9 +113,8 @@ impl Round<'_> {
         for _ in 0..steps {
             let call = self.random.call_of(tasks, &machine);
             self.step(&mut area, call)?;
-            let before = machine.clone();
             let reply = machine.step(call);
-            if repairs.note(&before, call, reply) {
+            if repairs.note(&machine, call, reply) {
                 self.tally.ignores.note_repair();
             }
         }
