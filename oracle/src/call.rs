@@ -108,6 +108,8 @@ pub enum Refusal {
     NoSuchSlot,
     /// The step is not allowed in the slot's present state.
     NotAllowed,
+    /// Ignore: some marked cell is also in the slot's write log.
+    MarkedWritten,
     /// Cell not below n.
     NoSuchCell,
     /// Kind outside 1 to 3 or word illegal for it.
@@ -138,7 +140,7 @@ pub enum Refusal {
 }
 
 impl Refusal {
-    /// The code, 1 to 12 or 14.
+    /// The code, 1 to 12, 14 or 15.
     pub fn code(self) -> u8 {
         match self {
             Refusal::NotWellFormed => 1,
@@ -154,6 +156,7 @@ impl Refusal {
             Refusal::HeldByAnother { .. } => 11,
             Refusal::ClockAtEnd => 12,
             Refusal::ReadHeld { .. } => 14,
+            Refusal::MarkedWritten => 15,
         }
     }
 
@@ -184,7 +187,7 @@ pub enum Reply {
 }
 
 impl Reply {
-    /// The code, 0 to 14.
+    /// The code, 0 to 15.
     pub fn code(self) -> u8 {
         match self {
             Reply::Done | Reply::Answer(_) => 0,

@@ -117,10 +117,10 @@ impl Random {
     /// A machine that random steps from a fresh one have led to.
     pub fn reached(&mut self) -> Option<Machine> {
         let n = self.cell_count();
-        let mut machine = Machine::fresh(&self.values(n))?;
-        let habit = self.habit();
+        let tasks = self.tasks();
+        let mut machine = Machine::fresh(&self.values_for(tasks, n))?;
         for _ in 0..self.between(20, 120) {
-            let call = self.likely_call(&machine, habit);
+            let call = self.call_of(tasks, &machine);
             machine.step(call);
         }
         Some(machine)
@@ -184,6 +184,9 @@ impl Random {
             Phase::Locking { taken } if taken < own.writes.len() => &[Lock],
             Phase::Locking { .. } => &[Enter],
             Phase::Twilight(_) if self.one_in(20) => &[GiveUp],
+            Phase::Twilight(Commit { ignoring: false, .. }) if own.some_mark() => {
+                &[Reread, Update, Ask, Reload, Ignore, Ignore, Finish]
+            }
             Phase::Twilight(_) => &[Reread, Update, Ask, Reload, Ignore, Finish, Finish],
             Phase::Publishing { .. } => &[Publish],
         };
@@ -194,6 +197,10 @@ impl Random {
         let logged: Vec<u8> = match (step, own) {
             (Step::Reread | Step::Ask, Some(own)) => own.reads.iter().map(|r| r.cell).collect(),
             (Step::Update, Some(own)) => own.writes.iter().map(|w| w.cell).collect(),
+            // Counting up writes what was read.
+            (Step::Write, Some(own)) if self.one_in(3) => {
+                own.reads.iter().map(|r| r.cell).collect()
+            }
             _ => Vec::new(),
         };
         if logged.is_empty() || self.one_in(10) {
@@ -221,7 +228,7 @@ impl Random {
     }
 
     /// Entries for some cells in any order, each cell at most once.
-    fn logged<T>(&mut self, machine: &Machine, entry: fn(u8, Value) -> T) -> Vec<T> {
+    pub(crate) fn logged<T>(&mut self, machine: &Machine, entry: fn(u8, Value) -> T) -> Vec<T> {
         let mut left: Vec<u8> = (0..machine.cells.len() as u8).collect();
         let most = left.len().min(Transaction::LOG_ROOM) as u64;
         let count = if self.one_in(8) { most } else { self.up_to(most) };
@@ -246,7 +253,8 @@ impl Random {
         };
         own.writes.retain(|write| machine.holder(write.cell) == 0);
         self.set_marks(own);
-        let ignoring = own.some_mark() && self.one_in(2);
+        let may_ignore = own.some_mark() && !own.some_marked_written();
+        let ignoring = may_ignore && self.one_in(2);
         own.phase = Phase::Twilight(Commit { stamp, ignoring });
     }
 
@@ -258,6 +266,10 @@ impl Random {
             return;
         };
         self.set_marks(own);
+        let writes: Vec<u8> = own.writes.iter().map(|write| write.cell).collect();
+        for read in &mut own.reads {
+            read.marked &= !writes.contains(&read.cell);
+        }
         let ignoring = own.some_mark();
         let unpublished = self.between(1, free as u64) as usize;
         own.phase = Phase::Publishing {
@@ -274,7 +286,7 @@ impl Random {
     }
 
     /// A commit stamp above start that no other slot has, if one is found.
-    fn commit_stamp(&mut self, own: &Transaction, machine: &Machine) -> Option<u64> {
+    pub(crate) fn commit_stamp(&mut self, own: &Transaction, machine: &Machine) -> Option<u64> {
         let least = own.start.checked_add(1)?;
         let commits = machine.transactions().filter_map(|(_, other)| other.commit());
         let others: Vec<u64> = commits.map(|commit| commit.stamp).collect();

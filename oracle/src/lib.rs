@@ -1,6 +1,6 @@
-//! A second program for the transaction core of document 01 with request #102
-//! of document 02 (who is in the way), and for the wear task of request #101 on
-//! top of it.
+//! A second program for the transaction core of document 01 with requests #102
+//! (who is in the way) and #103 (ignoring loses no update) of document 02, and
+//! for the wear task of request #101 on top of it.
 //!
 //! It shares no code and no data structure with the core it is compared with:
 //! a slot is idle or has a [`Transaction`], the holder of a cell is worked out
@@ -26,6 +26,7 @@ pub mod area;
 pub mod binary;
 pub mod call;
 pub mod compare;
+pub mod counting;
 pub mod fuzz;
 pub mod generate;
 pub mod inplace;
@@ -40,6 +41,7 @@ pub mod wellformed;
 
 mod bytes;
 mod counts;
+mod ignores;
 mod obstacles;
 mod record;
 mod steps;

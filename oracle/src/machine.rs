@@ -104,6 +104,17 @@ impl Transaction {
         self.reads.iter().any(|read| read.marked)
     }
 
+    /// The marked cells that are also in the write log, in read-log order.
+    pub fn marked_written(&self) -> impl Iterator<Item = u8> + '_ {
+        let marked = self.reads.iter().filter(|read| read.marked).map(|read| read.cell);
+        marked.filter(|cell| self.write_of(*cell).is_some())
+    }
+
+    /// Whether some marked cell is also in the write log.
+    pub fn some_marked_written(&self) -> bool {
+        self.marked_written().next().is_some()
+    }
+
     /// What it has from enter on.
     pub fn commit(&self) -> Option<Commit> {
         match self.phase {

@@ -3,7 +3,7 @@
 //! Every function here first asks for each refusal of its step, from the
 //! lowest code to the highest, and only then changes anything: so the lowest
 //! code that applies is given, and a refused call leaves the machine as it was.
-//! Code 14 is asked for at the place of 10 and before it.
+//! Code 14 is asked for at the place of 10 and before it, code 15 after 4.
 
 use crate::call::{Call, Refusal, Reply, Step};
 use crate::machine::{Cell, Commit, Machine, Phase, Read, Transaction, Write};
@@ -211,7 +211,12 @@ fn close(mut own: Transaction) -> Outcome {
     goes_on(own, Reply::Done)
 }
 
+/// A marked cell that is written, too, holds an update of another transaction:
+/// the written value was made without it and would take its place.
 fn ignore(mut own: Transaction, mut commit: Commit) -> Outcome {
+    if own.some_marked_written() {
+        return Err(Refusal::MarkedWritten);
+    }
     if own.some_mark() {
         commit.ignoring = true;
         own.phase = Phase::Twilight(commit);

@@ -12,7 +12,11 @@ type Sentence = (&'static str, fn(&AreaRecord) -> bool);
 
 const LENGTHS_AGREE: &str = "the lent length, the length field and the formula agree";
 
-pub(crate) const SENTENCE_COUNT: usize = 21;
+pub(crate) const SENTENCE_COUNT: usize = 22;
+
+/// The sentence of request #103.
+pub(crate) const NO_UPDATE_LOST: &str =
+    "the flag is 1 only if no marked cell is also in the write log";
 
 const SENTENCES: [Sentence; SENTENCE_COUNT] = [
     (LENGTHS_AGREE, lengths_agree),
@@ -34,6 +38,7 @@ const SENTENCES: [Sentence; SENTENCE_COUNT] = [
     ("commit stamp different from any other slot's", commit_stamps_differ),
     ("marks are 0 before phase 3", marks_are_0_before_phase_3),
     ("the flag is 1 only if some mark is 1", flag_only_if_some_mark),
+    (NO_UPDATE_LOST, no_update_lost),
     ("in phase 4 a mark requires the flag", in_phase_4_a_mark_requires_the_flag),
     ("a cell's holder is s exactly if s holds it", holders_exact),
 ];
@@ -195,6 +200,15 @@ fn some_mark(slot: &SlotRecord) -> bool {
 fn flag_only_if_some_mark(area: &AreaRecord) -> bool {
     let mut flagged = area.slots.iter().filter(|slot| slot.ignoring == 1);
     flagged.all(some_mark)
+}
+
+/// The whole write log counts, so in phase 4 cells already published, too.
+fn no_update_lost(area: &AreaRecord) -> bool {
+    let mut flagged = area.slots.iter().filter(|slot| slot.ignoring == 1);
+    flagged.all(|slot| {
+        let mut marked = slot.used_reads().filter(|read| read.mark == 1);
+        !marked.any(|read| slot.used_writes().any(|write| write.cell == read.cell))
+    })
 }
 
 fn in_phase_4_a_mark_requires_the_flag(area: &AreaRecord) -> bool {

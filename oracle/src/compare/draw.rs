@@ -3,6 +3,7 @@
 use super::case::Case;
 use crate::binary::{Sheet, STEPS_AT_MOST};
 use crate::call::{Call, Reply, Step};
+use crate::counting::Tasks;
 use crate::generate::Habit;
 use crate::machine::{Machine, CELLS_AT_MOST, SLOTS};
 use crate::random::Random;
@@ -54,26 +55,26 @@ fn encoded(sheet: Option<Sheet>) -> Vec<u8> {
 
 fn some_sheet(random: &mut Random) -> Option<Sheet> {
     let n = random.cell_count();
-    let habit = random.habit();
+    let tasks = random.tasks();
     let steps = random.between(40, 300) as usize;
-    sheet_with_a_commit(random, n, habit, steps)
+    sheet_with_a_commit(random, n, tasks, steps)
 }
 
 fn busy_sheet(random: &mut Random) -> Option<Sheet> {
     let patience = random.pick(&[8, 40])?;
-    let habit = Habit { slots: SLOTS as u8, patience };
-    sheet_with_a_commit(random, CELLS_AT_MOST, habit, STEPS_AT_MOST)
+    let tasks = Tasks::Any(Habit { slots: SLOTS as u8, patience });
+    sheet_with_a_commit(random, CELLS_AT_MOST, tasks, STEPS_AT_MOST)
 }
 
 /// Draws until some transaction commits, which few short sheets lack.
-fn sheet_with_a_commit(random: &mut Random, n: usize, habit: Habit, steps: usize) -> Option<Sheet> {
+fn sheet_with_a_commit(random: &mut Random, n: usize, tasks: Tasks, steps: usize) -> Option<Sheet> {
     loop {
-        let cells = random.values(n);
+        let cells = random.values_for(tasks, n);
         let mut machine = Machine::fresh(&cells)?;
         let mut commits = 0;
         let mut calls = Vec::new();
         for _ in 0..steps {
-            let call = random.likely_call(&machine, habit);
+            let call = random.call_of(tasks, &machine);
             commits += u64::from(is_commit(call, machine.step(call)));
             calls.push(call);
         }

@@ -1,7 +1,8 @@
 //! Sheets in which another slot is in the way.
 
 use super::case::{Case, CELL};
-use crate::call::Step::{self, *};
+use super::steps::Steps;
+use crate::call::Step::*;
 use crate::machine::{Transaction, CELLS_AT_MOST, SLOTS};
 
 /// E11 as it stands, what comes first, then each slot as the holder of each
@@ -13,50 +14,20 @@ pub(super) fn sheets_with_a_holder() -> Vec<Case> {
     cases
 }
 
-/// Steps on cells that are all whole numbers.
-struct Steps(Vec<u8>);
-
-impl Steps {
-    fn add(&mut self, step: Step, slot: u8, cell: u8) {
-        let kind = if step == Write { 2 } else { 0 };
-        self.0.extend([step.number(), slot, cell, kind, 0, 0, 0, 0]);
-    }
-
-    /// The slot takes these cells and keeps them.
-    fn hold(&mut self, slot: u8, cells: &[u8]) {
-        self.add(Begin, slot, 0);
-        cells.iter().for_each(|cell| self.add(Write, slot, *cell));
-        self.add(Close, slot, 0);
-        cells.iter().for_each(|_| self.add(Lock, slot, 0));
-    }
-
-    /// The slot reads the cell, and writes and locks it.
-    fn meet(&mut self, slot: u8, cell: u8) {
-        for step in [Begin, Read, Write, Close, Lock] {
-            self.add(step, slot, cell);
-        }
-    }
-
-    fn on_cells(self, name: String, cells: usize) -> Case {
-        Case::of_parts(name, 1, &CELL.repeat(cells), &self.0)
-    }
-}
-
 fn e11() -> Case {
-    let mut steps = Steps(Vec::new());
+    let mut steps = Steps::default();
     steps.hold(1, &[0]);
     steps.meet(2, 0);
     let cells = [&CELL[..], &[1, 0, 0, 0, 0]].concat();
-    Case::of_parts("E11", 1, &cells, &steps.0)
+    Case::of_parts("E11", 1, &cells, &steps.bytes)
 }
 
 /// Slot 1 reads cell 16 when it is newer, when it is held as well, when it is
 /// newer again, and the same with a full read log.
 fn held_newer_or_full() -> Case {
-    let mut steps = Steps(Vec::new());
+    let mut steps = Steps::default();
     steps.add(Begin, 1, 0);
-    steps.hold(2, &[16]);
-    [Enter, Finish, Publish].into_iter().for_each(|step| steps.add(step, 2, 0));
+    steps.renew(2, &[16]);
     for reads in [0..0, 0..16] {
         reads.for_each(|cell| steps.add(Read, 1, cell));
         steps.add(Read, 1, 16);
@@ -65,22 +36,22 @@ fn held_newer_or_full() -> Case {
         steps.add(GiveUp, 3, 0);
         steps.add(Read, 1, 16);
     }
-    steps.on_cells("held, newer or full".to_string(), 17)
+    steps.on_cells("held, newer or full", 17)
 }
 
 /// Slot 1 holds the second cell that slot 2 needs.
 fn second_lock() -> Case {
-    let mut steps = Steps(Vec::new());
+    let mut steps = Steps::default();
     steps.hold(1, &[4]);
     steps.hold(2, &[3, 4]);
-    steps.on_cells("the second lock".to_string(), 5)
+    steps.on_cells("the second lock", 5)
 }
 
 /// The slot holds as many cells at a time as its log has room for.
 fn held_by(holder: u8) -> Case {
     let other = 1 + holder % SLOTS as u8;
     let all: Vec<u8> = (0..CELLS_AT_MOST as u8).collect();
-    let mut steps = Steps(Vec::new());
+    let mut steps = Steps::default();
     for cells in all.chunks(Transaction::LOG_ROOM) {
         steps.hold(holder, cells);
         for cell in cells {
@@ -97,7 +68,7 @@ fn held_by(holder: u8) -> Case {
 /// one tells of another.
 fn reload_past_holders() -> Case {
     let read: Vec<u8> = (0..16).map(|turn| turn * 7 % 16).collect();
-    let mut steps = Steps(Vec::new());
+    let mut steps = Steps::default();
     steps.add(Begin, 8, 0);
     read.iter().for_each(|cell| steps.add(Read, 8, *cell));
     steps.add(Close, 8, 0);
@@ -110,5 +81,5 @@ fn reload_past_holders() -> Case {
         steps.add(GiveUp, holder, 0);
         steps.add(Reload, 8, 0);
     }
-    steps.on_cells("reload past seven holders".to_string(), 16)
+    steps.on_cells("reload past seven holders", 16)
 }

@@ -7,8 +7,10 @@ mod case;
 mod draw;
 mod edges;
 mod failure;
+mod ignoring;
 mod in_the_way;
 mod process;
+mod steps;
 mod tally;
 
 pub use bad::bad_sheets;

@@ -5,6 +5,7 @@ use std::fmt;
 use crate::binary::{Sheet, STEPS_AT_MOST};
 use crate::call::{Call, Reply, Step};
 use crate::counts::{self, Count};
+use crate::ignores::{self, Ignores, Repairs};
 use crate::machine::{Machine, CELLS_AT_MOST};
 use crate::obstacles::{self, Obstacles};
 
@@ -13,7 +14,10 @@ use crate::obstacles::{self, Obstacles};
 const LEAST_COUNTS_ARE_FOR: u64 = 2_000;
 
 /// The least counts of steps with another slot in the way.
-const OBSTACLES: [u64; obstacles::COUNTED] = [4000, 200, 12, 12, 30, 90, 60, 200, 150];
+const OBSTACLES: [u64; obstacles::COUNTED] = [4000, 200, 12, 12, 30, 90, 150, 200, 150];
+
+/// The least counts of ignores and of what comes of them.
+const IGNORES: [u64; ignores::COUNTED] = [400, 70, 25, 14, 3, 9, 160, 100, 600, 130, 30];
 
 /// Counts of what was compared and found alike.
 #[derive(Clone, Debug, Default)]
@@ -22,11 +26,11 @@ pub struct Tally {
     bad: u64,
     with_a_commit: u64,
     full: u64,
-    codes: [u64; 15],
+    codes: [u64; 16],
     done: [u64; 15],
     marks: u64,
-    ignores: u64,
     obstacles: Obstacles,
+    ignores: Ignores,
 }
 
 impl Tally {
@@ -44,7 +48,10 @@ impl Tally {
     pub(super) fn note_steps(&mut self, sheet: &Sheet) {
         let commits = self.commits();
         if let Some(mut machine) = Machine::fresh(sheet.cells()) {
-            sheet.calls().iter().for_each(|call| self.note_step(&mut machine, *call));
+            let mut repairs = Repairs::default();
+            for call in sheet.calls() {
+                self.note_step(&mut machine, *call, &mut repairs);
+            }
         }
         let committed = self.commits() > commits;
         let size = (sheet.cells().len(), sheet.calls().len());
@@ -52,9 +59,13 @@ impl Tally {
         self.full += u64::from(committed && size == (CELLS_AT_MOST, STEPS_AT_MOST));
     }
 
-    fn note_step(&mut self, machine: &mut Machine, call: Call) {
-        let was_ignoring = is_ignoring(machine, call.slot);
+    fn note_step(&mut self, machine: &mut Machine, call: Call, repairs: &mut Repairs) {
+        let before = Ignores::is_about(call.step).then(|| machine.clone());
         let reply = machine.step(call);
+        before.iter().for_each(|before| self.ignores.note(before, call, reply.code()));
+        if repairs.note(machine, call, reply) {
+            self.ignores.note_repair();
+        }
         self.codes[usize::from(reply.code())] += 1;
         self.obstacles.note(machine, call, reply.number());
         let Some(step) = Step::numbered(call.step).filter(|_| reply.code() == 0) else {
@@ -63,9 +74,7 @@ impl Tally {
         self.done[usize::from(step.number())] += 1;
         // Enter answers false: something is marked.
         let marks = step == Step::Enter && reply.word() == 0 && reply != Reply::Done;
-        let ignores = step == Step::Ignore && !was_ignoring && is_ignoring(machine, call.slot);
         self.marks += u64::from(marks);
-        self.ignores += u64::from(ignores);
     }
 
     fn commits(&self) -> u64 {
@@ -84,28 +93,27 @@ impl Tally {
             ("commits", self.commits(), 10_000),
             ("enters that mark", self.marks, 1_000),
             ("reloads", self.done[usize::from(Step::Reload.number())], 4_000),
-            ("ignores that set the flag", self.ignores, 250),
             ("aborts", self.codes[13], 500),
         ];
         let mut counts: Vec<Count> =
             named.map(|(name, count, least)| (name.to_string(), count, least)).to_vec();
         // Codes 1 and 12 are out of a sheet's reach, and 13 is an abort.
-        for code in (2..=11).chain([14]) {
-            let least = if code == 14 { 2_500 } else { 500 };
+        for code in (2..=11).chain([14, 15]) {
+            let least = match code {
+                14 => 2_500,
+                15 => 300,
+                _ => 500,
+            };
             counts.push((format!("code {code}"), self.codes[code], least));
         }
         counts.extend(self.obstacles.counts(OBSTACLES));
+        counts.extend(self.ignores.counts(IGNORES));
         for step in Step::ALL {
             let count = self.done[usize::from(step.number())];
             counts.push((format!("{} done", step.name()), count, 1_500));
         }
         counts
     }
-}
-
-fn is_ignoring(machine: &Machine, slot: u8) -> bool {
-    let commit = machine.slot(slot).and_then(|own| own.commit());
-    commit.is_some_and(|commit| commit.ignoring)
 }
 
 impl fmt::Display for Tally {

@@ -3,9 +3,10 @@
 use super::failure::{differences, Given};
 use super::guarded::Guarded;
 use super::rounds::{Made, Round};
-use crate::call::{Call, Reply, Step};
+use crate::call::{Call, Refusal, Reply, Step};
 use crate::generate::Habit;
-use crate::machine::{Machine, SLOTS};
+use crate::ignores::Repairs;
+use crate::machine::{Machine, Phase, Transaction, SLOTS};
 use crate::wear::wear_on_bytes;
 
 /// Tasks that level on an area, one after the other.
@@ -14,6 +15,15 @@ struct Walk {
     machine: Machine,
     /// The slots whose transactions have written a count by levelling.
     levelled: [bool; SLOTS],
+    repairs: Repairs,
+}
+
+impl Walk {
+    /// The slot's transaction, if it has levelled.
+    fn levelled_in(&self, slot: u8) -> Option<&Transaction> {
+        let levelled = self.levelled.get(usize::from(slot).wrapping_sub(1))?;
+        self.machine.slot(slot).filter(|_| *levelled)
+    }
 }
 
 impl Round<'_> {
@@ -24,11 +34,18 @@ impl Round<'_> {
         let values = self.random.wear_values(n);
         let (area, machine) = self.fresh(&values, 0)?;
         let sets = [(); 2].map(|()| self.random.wear_set(&machine, 1));
-        let mut walk = Walk { area, machine, levelled: [false; SLOTS] };
-        let slots = self.random.pick(&[1, 2, 3, 8]).unwrap_or(2);
-        let habit = Habit { slots, patience: self.random.between(1, 2) };
-        for _ in 0..150 {
-            let call = self.random.call_among_tasks(&walk.machine, habit);
+        let repairs = Repairs::default();
+        let mut walk = Walk { area, machine, levelled: [false; SLOTS], repairs };
+        let slots = self.random.pick(&[1, 2, 3, 5, 8]).unwrap_or(2);
+        let habit = Habit { slots, patience: self.random.between(1, 6) };
+        for _ in 0..200 {
+            let mut call = self.random.call_among_tasks(&walk.machine, habit);
+            if let Some(own) = walk
+                .levelled_in(call.slot)
+                .filter(|own| own.phase != Phase::Open && !self.random.one_in(4))
+            {
+                call = self.random.call_to_commit(own, call.slot);
+            }
             if walk.machine.is_open_and_empty(call.slot) && !self.random.one_in(5) {
                 let set = &sets[self.random.place(sets.len())];
                 self.level(&mut walk, set, call.slot)?;
@@ -52,11 +69,22 @@ impl Round<'_> {
 
     fn step_of_task(&mut self, walk: &mut Walk, call: Call) -> Made {
         self.step(&mut walk.area, call)?;
+        let before = walk.machine.clone();
         let reply = walk.machine.step(call);
-        let levelled = walk.levelled.get_mut(usize::from(call.slot).wrapping_sub(1));
-        match (Step::numbered(call.step), reply, levelled) {
-            (Some(Step::Begin), Reply::Done, Some(levelled)) => *levelled = false,
-            (Some(Step::Finish), Reply::Done, Some(true)) => self.tally.wear.note_commit(),
+        let repaired = walk.repairs.note(&walk.machine, call, reply);
+        let place = usize::from(call.slot).wrapping_sub(1);
+        let Some(levelled) = walk.levelled.get_mut(place) else {
+            return Ok(());
+        };
+        let own = before.slot(call.slot).filter(|_| *levelled);
+        match (Step::numbered(call.step), reply, own) {
+            (Some(Step::Begin), Reply::Done, _) => *levelled = false,
+            (Some(Step::Ignore), Reply::Refused(Refusal::MarkedWritten), Some(_)) => {
+                self.tally.wear.note_marked_count();
+            }
+            (Some(Step::Finish), Reply::Done, Some(own)) => {
+                self.tally.wear.note_commit(own.some_mark(), repaired);
+            }
             _ => {}
         }
         Ok(())

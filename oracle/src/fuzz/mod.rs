@@ -5,6 +5,7 @@
 //! alone, so that a failure is repeated by repeating one round.
 
 mod failure;
+mod flagged;
 mod guarded;
 mod levelling;
 mod rounds;

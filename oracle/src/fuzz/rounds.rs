@@ -6,7 +6,9 @@ use super::{Library, Tally};
 use crate::area::{area_length, lay_out_on_bytes, step_on_bytes};
 use crate::binary::{describe, DESCRIPTION_LENGTH};
 use crate::call::Call;
+use crate::counting::Tasks;
 use crate::generate::Habit;
+use crate::ignores::Repairs;
 use crate::machine::Machine;
 use crate::random::Random;
 use crate::value::Value;
@@ -21,6 +23,7 @@ pub enum Sort {
     Damage,
     Junk,
     EveryStepAndSlot,
+    Flagged,
     LayOut,
     WearWalk,
     WearAnyArea,
@@ -28,13 +31,14 @@ pub enum Sort {
 }
 
 impl Sort {
-    const ALL: [Sort; 10] = [
+    const ALL: [Sort; 11] = [
         Sort::Walk,
         Sort::LastStamps,
         Sort::AnyArea,
         Sort::Damage,
         Sort::Junk,
         Sort::EveryStepAndSlot,
+        Sort::Flagged,
         Sort::LayOut,
         Sort::WearWalk,
         Sort::WearAnyArea,
@@ -53,6 +57,7 @@ impl Sort {
             Sort::Damage => "areas with one to three bytes changed",
             Sort::Junk => "junk of any length",
             Sort::EveryStepAndSlot => "every step and slot on one area",
+            Sort::Flagged => "slots with marks and with the flag, and tasks that count up",
             Sort::LayOut => "lay-outs",
             Sort::WearWalk => "tasks that level, from a fresh area",
             Sort::WearAnyArea => "wear tasks on any well-formed areas",
@@ -82,6 +87,11 @@ impl Round<'_> {
             Sort::Damage => (0..8).try_for_each(|_| self.damage()),
             Sort::Junk => self.junk(),
             Sort::EveryStepAndSlot => self.every_step_and_slot(),
+            Sort::Flagged => {
+                (0..30).try_for_each(|_| self.flagged())?;
+                let n = self.random.between(1, 4) as usize;
+                self.walk_of(Tasks::CountUp { slots: 5 }, n, 0, 150)
+            }
             Sort::LayOut => self.lay_outs(),
             Sort::WearWalk => self.tasks_that_level(),
             Sort::WearAnyArea => (0..35).try_for_each(|_| self.level_on_any_area()),
@@ -92,13 +102,21 @@ impl Round<'_> {
     /// Steps one after the other, from a fresh area with another clock.
     fn walk(&mut self, clock: u64, steps: u64) -> Made {
         let n = self.random.cell_count();
-        let values = self.random.values(n);
+        let tasks = self.random.tasks();
+        self.walk_of(tasks, n, clock, steps)
+    }
+
+    fn walk_of(&mut self, tasks: Tasks, n: usize, clock: u64, steps: u64) -> Made {
+        let values = self.random.values_for(tasks, n);
         let (mut area, mut machine) = self.fresh(&values, clock)?;
-        let habit = self.random.habit();
+        let mut repairs = Repairs::default();
         for _ in 0..steps {
-            let call = self.random.likely_call(&machine, habit);
+            let call = self.random.call_of(tasks, &machine);
             self.step(&mut area, call)?;
-            machine.step(call);
+            let reply = machine.step(call);
+            if repairs.note(&machine, call, reply) {
+                self.tally.ignores.note_repair();
+            }
         }
         Ok(())
     }
@@ -154,7 +172,7 @@ impl Round<'_> {
     }
 
     /// A step on bytes that are likely not to be well formed.
-    fn spoilt(&mut self, mut area: Vec<u8>, call: Call) -> Made {
+    pub(super) fn spoilt(&mut self, mut area: Vec<u8>, call: Call) -> Made {
         let faults = faults(&area);
         self.tally.note_faults(&faults);
         self.step(&mut area, call)
@@ -213,7 +231,7 @@ impl Round<'_> {
     }
 
     /// A call in any slot, mostly one that suits it.
-    fn any_call(&mut self, machine: &Machine) -> Call {
+    pub(super) fn any_call(&mut self, machine: &Machine) -> Call {
         let call = self.random.likely_call(machine, Habit { slots: 8, patience: 4 });
         let step = if self.random.one_in(4) { self.random.up_to(15) as u8 } else { call.step };
         Call { step, ..call }
@@ -233,7 +251,7 @@ impl Round<'_> {
         let asked =
             format_args!("step {step}, slot {slot}, cell {cell}, kind {kind}, word {word:08x}");
         differences(asked, &before, Given::wanted(number, area), Given::lent(given, &lent))?;
-        self.tally.note_step(&before, call, number, *area != before);
+        self.tally.note_step(&before, call, number);
         Ok(())
     }
 

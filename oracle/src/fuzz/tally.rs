@@ -2,12 +2,14 @@
 
 use std::fmt;
 
+use super::flagged::Lost;
 use super::wear_tally::WearTally;
 use crate::call::Call;
 use crate::counts::{self, Count};
+use crate::ignores::{self, Ignores};
 use crate::machine::Machine;
 use crate::obstacles::{self, Obstacles};
-use crate::wellformed::{sentences, SENTENCE_COUNT};
+use crate::wellformed::{sentences, NO_UPDATE_LOST, SENTENCE_COUNT};
 
 /// The least counts are those of so many calls; others are in proportion.
 const LEAST_COUNTS_ARE_FOR: u64 = 250_000;
@@ -15,20 +17,31 @@ const LEAST_COUNTS_ARE_FOR: u64 = 250_000;
 /// The least counts of steps with another slot in the way.
 const OBSTACLES: [u64; obstacles::COUNTED] = [1500, 200, 70, 70, 100, 150, 5, 60, 25];
 
+/// The least counts of ignores and of what comes of them.
+const IGNORES: [u64; ignores::COUNTED] = [1000, 400, 60, 60, 70, 60, 400, 1000, 200, 80, 15];
+
+/// The least counts of areas that lose an update, in the order of their names.
+const LOST: [u64; Lost::ALL.len()] = [900, 600, 300];
+
 /// Counts of the calls that were answered alike.
 #[derive(Clone, Debug, Default)]
 pub struct Tally {
-    codes: [u64; 15],
+    codes: [u64; 16],
     done: [u64; 15],
     marks: u64,
-    ignores: u64,
     obstacles: Obstacles,
+    pub(super) ignores: Ignores,
     lay_outs: [u64; 7],
     pub(super) wear: WearTally,
     /// Areas with some bytes changed that are well formed all the same.
     still_well_formed: u64,
     /// Areas in which no other sentence is broken, for each sentence.
     alone: [u64; SENTENCE_COUNT],
+    /// Those of them that lose an update by their flag, by the written cell.
+    lost: [u64; Lost::ALL.len()],
+    /// Well-formed areas with the flag set that are next to losing one: all that
+    /// was read is marked, and both logs are full.
+    full_and_apart: u64,
 }
 
 impl Tally {
@@ -37,27 +50,36 @@ impl Tally {
         self.codes.iter().chain(&self.lay_outs).sum::<u64>() + self.wear.calls()
     }
 
-    pub(super) fn note_step(&mut self, before: &[u8], call: Call, number: u64, changed: bool) {
+    pub(super) fn note_step(&mut self, before: &[u8], call: Call, number: u64) {
         let code = (number >> 40) as u8;
         self.codes[usize::from(code)] += 1;
         if Obstacles::is_about(code) {
             let machine = Machine::unpack(before);
             machine.iter().for_each(|machine| self.obstacles.note(machine, call, number));
         }
+        if Ignores::is_about(call.step) {
+            let machine = Machine::unpack(before);
+            machine.iter().for_each(|machine| self.ignores.note(machine, call, code));
+        }
         if code != 0 {
             return;
         }
         self.done[usize::from(call.step)] += 1;
-        match call.step {
-            // Enter answers false: something is marked.
-            6 if number as u32 == 0 => self.marks += 1,
-            11 if changed => self.ignores += 1,
-            _ => {}
-        }
+        // Enter answers false: something is marked.
+        self.marks += u64::from(call.step == 6 && number as u32 == 0);
     }
 
     pub(super) fn note_lay_out(&mut self, code: u64) {
         self.lay_outs[code as usize] += 1;
+    }
+
+    /// Notes an area that was made to lose an update, if it has no other fault.
+    pub(super) fn note_lost(&mut self, faults: &[&str], lost: Lost) {
+        self.lost[lost as usize] += u64::from(*faults == [NO_UPDATE_LOST]);
+    }
+
+    pub(super) fn note_full_and_apart(&mut self) {
+        self.full_and_apart += 1;
     }
 
     pub(super) fn note_faults(&mut self, faults: &[&str]) {
@@ -79,7 +101,11 @@ impl Tally {
     fn counts(&self) -> Vec<Count> {
         let mut counts: Vec<Count> = Vec::new();
         for (code, count) in self.codes.iter().enumerate() {
-            let least = if code == 14 { 600 } else { 100 };
+            let least = match code {
+                14 => 600,
+                15 => 1000,
+                _ => 100,
+            };
             counts.push((format!("code {code}"), *count, least));
         }
         for (step, count) in self.done.iter().enumerate().skip(1) {
@@ -92,12 +118,16 @@ impl Tally {
             ("commits", self.done[12], 1000),
             ("enters that mark", self.marks, 300),
             ("reloads", self.done[10], 400),
-            ("ignores that set the flag", self.ignores, 60),
             ("aborts", self.codes[13], 100),
             ("damaged and still well formed", self.still_well_formed, 2000),
+            ("the flag set, 16 marked reads and 16 writes", self.full_and_apart, 300),
         ];
         counts.extend(named.map(|(name, count, least)| (name.to_string(), count, least)));
         counts.extend(self.obstacles.counts(OBSTACLES));
+        counts.extend(self.ignores.counts(IGNORES));
+        for ((lost, count), least) in Lost::ALL.into_iter().zip(self.lost).zip(LOST) {
+            counts.push((format!("an update lost, {}", lost.name()), count, least));
+        }
         for (sentence, count) in sentences().zip(self.alone) {
             counts.push((format!("broken alone: {sentence}"), count, 5));
         }

@@ -44,6 +44,11 @@ pub struct WearTally {
     ties: u64,
     unusable_with_fewer: u64,
     commits: u64,
+    /// Those that ignored marks, all on other cells than the count's.
+    commits_with_marks: u64,
+    /// Code 15 because the count itself is marked, and commits after that.
+    marked_counts: u64,
+    repaired: u64,
 }
 
 impl WearTally {
@@ -89,9 +94,17 @@ impl WearTally {
         self.unusable_with_fewer += u64::from(fewer);
     }
 
-    /// A transaction that levelled has committed.
-    pub fn note_commit(&mut self) {
+    /// A transaction that levelled has committed, with marks or not, after code
+    /// 15 or not.
+    pub fn note_commit(&mut self, marked: bool, repaired: bool) {
         self.commits += 1;
+        self.commits_with_marks += u64::from(marked);
+        self.repaired += u64::from(repaired);
+    }
+
+    /// A transaction that levelled may not ignore its marks.
+    pub fn note_marked_count(&mut self) {
+        self.marked_counts += 1;
     }
 
     pub(super) fn counts(&self) -> Vec<Count> {
@@ -115,6 +128,9 @@ impl WearTally {
             ("picks on a tie", self.ties, 400),
             ("picks beside an unusable group with fewer erases", self.unusable_with_fewer, 250),
             ("commits of tasks that levelled", self.commits, 200),
+            ("commits of tasks that levelled, marks ignored", self.commits_with_marks, 6),
+            ("code 15 of tasks that levelled", self.marked_counts, 20),
+            ("code 15 of tasks that levelled, repaired", self.repaired, 4),
         ];
         counts.extend(named.map(|(name, count, least)| (name.to_string(), count, least)));
         counts

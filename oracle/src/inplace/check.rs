@@ -71,6 +71,7 @@ fn logs_are_good(slot: &SlotBytes, cells: &[CellBytes]) -> bool {
     };
     flag_is_good
         && writes_are_good(writes, cells)
+        && (slot[IGNORING] == 0 || no_update_lost(reads, writes))
         && all_zero(unused_reads.as_flattened())
         && all_zero(unused_writes.as_flattened())
 }
@@ -99,6 +100,22 @@ fn writes_are_good(writes: &[WriteBytes], cells: &[CellBytes]) -> bool {
         let cell = cells.get(usize::from(write[0]));
         above && cell.is_some_and(|cell| legal(cell[KIND], u32_at(write, WRITE_WORD)))
     })
+}
+
+/// No marked cell is written. Asked of slots with the flag alone, whose entries
+/// are good: the cells are below 64.
+fn no_update_lost(reads: &[ReadBytes], writes: &[WriteBytes]) -> bool {
+    cells_of_marked(reads) & cells_of(writes) == 0
+}
+
+/// A bit for each cell of the entries that are marked.
+pub fn cells_of_marked(reads: &[ReadBytes]) -> u64 {
+    reads.iter().fold(0, |cells, read| cells | u64::from(read[MARK]) << read[0])
+}
+
+/// A bit for each cell of the entries.
+pub fn cells_of(writes: &[WriteBytes]) -> u64 {
+    writes.iter().fold(0, |cells, write| cells | 1 << write[0])
 }
 
 /// Every byte is looked at, which is quicker than to stop at the first that

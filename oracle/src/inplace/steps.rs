@@ -1,6 +1,6 @@
 //! The fourteen steps on the bytes of a well-formed area.
 
-use super::check::held;
+use super::check::{cells_of, cells_of_marked, held};
 use super::view::*;
 use crate::call::{Call, Refusal, Reply, Step};
 use crate::machine::Transaction;
@@ -145,7 +145,11 @@ impl Turn<'_> {
     }
 
     fn ignore(self) -> Outcome {
-        self.own[IGNORING] = self.some_mark().into();
+        let marked = cells_of_marked(self.reads());
+        if marked & cells_of(self.writes()) != 0 {
+            return Err(Refusal::MarkedWritten);
+        }
+        self.own[IGNORING] = u8::from(marked != 0);
         DONE
     }
 

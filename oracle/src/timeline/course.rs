@@ -72,6 +72,7 @@ pub(super) fn code_words(code: u8) -> &'static str {
         12 => "the clock is at its end",
         13 => "marked and not ignored: ended without commit",
         14 => "another slot holds the cell",
+        15 => "some marked cell is also in the slot's write log",
         _ => "the area is not well formed",
     }
 }

@@ -16,6 +16,9 @@ const REASON_LINES: usize = 2;
 /// The cell's stamp is above the start.
 const NEWER: &str = "is newer";
 
+/// The marked cell is also in the write log.
+const WRITTEN: &str = "is written";
+
 /// The phase of a slot, as a lane shows it.
 #[derive(Clone, Copy, Debug, PartialEq, Eq)]
 pub(super) enum Shade {
@@ -195,6 +198,11 @@ impl View<'_> {
         own.writes.get(done).map(|write| write.cell)
     }
 
+    /// Of the marked cells that are written, too, the first in read-log order.
+    fn first_marked_written(&self) -> Option<u8> {
+        self.before.slot(self.call.slot)?.marked_written().next()
+    }
+
     fn lines(&self, step: Option<Step>, reply: Reply, obstacle: Option<&Obstacle>) -> Vec<String> {
         let Some(step) = step else {
             return Vec::new();
@@ -219,6 +227,7 @@ impl View<'_> {
             _ if step.uses_cell() => Some(self.call.cell),
             (Step::Lock | Step::Publish, Reply::Done) => self.next_lock(),
             (Step::Lock | Step::Reload, Reply::Refused(_)) => obstacle.map(|found| found.cell),
+            (Step::Ignore, Reply::Refused(Refusal::MarkedWritten)) => self.first_marked_written(),
             _ => None,
         }
     }
@@ -232,6 +241,7 @@ impl View<'_> {
         match (refusal, obstacle) {
             (_, Some(Obstacle { holder, .. })) => Some(held_by(*holder)),
             (Refusal::ReadNewer, None) => Some(NEWER.to_string()),
+            (Refusal::MarkedWritten, None) => Some(WRITTEN.to_string()),
             _ if step.uses_value() => Some(format!(":= {}", self.brought())),
             _ => None,
         }

@@ -26,15 +26,15 @@ fn a_fresh_area_byte_by_byte() {
 fn a_publishing_slot_byte_by_byte() {
     let mut bench = Bench::of_wholes(3).at_clock(0x0102_0304_0506_0708);
     bench.make_all(&["begin 2", "read 2 1", "read 2 0", "write 2 2 whole 0x11223344"]);
-    bench.make_all(&["write 2 1 whole -2", "begin 1", "write 1 1 whole 0x55667788", "close 1"]);
+    bench.make_all(&["write 2 1 whole -2", "begin 1", "write 1 0 whole 0x55667788", "close 1"]);
     bench.make_all(&["lock 1", "enter 1", "finish 1", "publish 1"]);
     bench.make_all(&["close 2", "lock 2", "lock 2", "enter 2", "ignore 2", "finish 2"]);
     bench.make_all(&["publish 2"]);
     let mut expected = vec![4, 1, 1, 2, 2];
     expected.extend([1, 2, 3, 4, 5, 6, 7, 8]);
     expected.extend([1, 2, 3, 4, 5, 6, 7, 10]);
-    expected.extend([1, 1, 0, 0, 0, 1]);
-    expected.extend([0, 0, 0, 0, 0, 0]);
+    expected.extend([1, 0, 0, 0, 0, 1]);
+    expected.extend([0, 1, 0, 0, 0, 0]);
     expected.resize(21 + 6 * 16, 0);
     expected.extend([1, 0xff, 0xff, 0xff, 0xfe]);
     expected.extend([2, 0x11, 0x22, 0x33, 0x44]);

@@ -36,12 +36,12 @@ fn lines(output: &[u8]) -> Vec<String> {
 #[test]
 fn what_is_right_passes() {
     let right = stand_in("right");
-    let output = run_compare(&[&right.to_string_lossy(), EXAMPLES, "sheets=30", "seed=3"]);
+    let output = run_compare(&[&right.to_string_lossy(), EXAMPLES, "sheets=200", "seed=3"]);
     let lines = lines(&output.stdout);
     let last = lines.last().expect("a line");
     assert!(last.starts_with("compare: ") && last.ends_with(" inputs answered alike, seed 3"));
     assert_eq!(output.status.code(), Some(0), "{lines:?}");
-    assert!(lines.contains(&"compare: 14 examples".to_string()), "{lines:?}");
+    assert!(lines.contains(&"compare: 15 examples".to_string()), "{lines:?}");
 }
 
 #[test]

@@ -5,9 +5,10 @@ use oracle::compare::{bad_sheets, compare, cut_sheets, edge_sheets, long_inputs,
 use oracle::compare::{Case, Ended, Failure, Given, Plan, Stopped, Tally};
 use oracle::{describe, lay_out_on_bytes, run, BadSheet, Sheet};
 
-use crate::fuzzing::{step, StepOnBytes, IN_THE_WAY, WRONG_STEPS};
+use crate::fuzzing::{step, StepOnBytes, IGNORED, IN_THE_WAY, WRONG_STEPS};
 use crate::peek::Peek;
 use crate::sheets::s_binary;
+use crate::wrong_ignores::{STRICT_CHECKS, WRONG_FLAGS, WRONG_IGNORES};
 use crate::wrong_obstacles::WRONG_OBSTACLES;
 
 type Program = fn(&Case) -> Given;
@@ -283,8 +284,8 @@ fn what_is_right_passes_and_every_least_count_is_reached() {
 fn a_run_that_reaches_little_is_told_so() {
     let tally = compared(&|case| prints(right(case)), 40).unwrap_or_else(|fail| panic!("{fail}"));
     let short = tally.short(2_000);
-    let others = ["commits", "enters that mark", "reloads", "ignores", "aborts", "random sheets"];
-    for name in IN_THE_WAY.into_iter().chain(others) {
+    let others = ["commits", "enters that mark", "reloads", "aborts", "random sheets"];
+    for name in IN_THE_WAY.into_iter().chain(IGNORED).chain(others) {
         assert!(short.iter().any(|line| line.starts_with(name)), "{name}: {short:?}");
     }
 }
@@ -313,11 +314,20 @@ fn every_wrong_core_is_caught() {
 /// By the sheets at the edges alone, without a random one.
 #[test]
 fn every_wrong_word_on_who_is_in_the_way_is_caught() {
-    for (name, wrong) in WRONG_OBSTACLES {
-        let failure = compared(&|case| run_on_area(case, wrong), 0).expect_err(name);
-        let is_edge = edge_sheets().iter().any(|case| case.name == failure.case.name);
-        assert!(is_edge, "{name}: {}", failure.case.name);
-    }
+    WRONG_OBSTACLES.iter().for_each(caught_at_the_edges);
+}
+
+/// Likewise. What only a damaged area shows is out of reach of a sheet.
+#[test]
+fn every_wrong_ignore_is_caught() {
+    let wrong = WRONG_IGNORES.iter().chain(&WRONG_FLAGS).chain(&STRICT_CHECKS);
+    wrong.for_each(caught_at_the_edges);
+}
+
+fn caught_at_the_edges((name, wrong): &(&str, StepOnBytes)) {
+    let failure = compared(&|case| run_on_area(case, *wrong), 0).expect_err(name);
+    let is_edge = edge_sheets().iter().any(|case| case.name == failure.case.name);
+    assert!(is_edge, "{name}: {}", failure.case.name);
 }
 
 #[test]

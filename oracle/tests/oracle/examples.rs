@@ -8,7 +8,7 @@ use crate::bench::{held_by_another, read_held, refused, whole, Answer, DONE, FAL
 pub const FOLDER: &str = concat!(env!("CARGO_MANIFEST_DIR"), "/../examples/sheets");
 
 /// Those with a test below, and sheet S, whose output the document gives.
-pub const NAMES: [&str; 14] = [
+pub const NAMES: [&str; 15] = [
     "blocked",
     "codes",
     "eight-slots",
@@ -22,6 +22,7 @@ pub const NAMES: [&str; 14] = [
     "race",
     "reload",
     "s",
+    "totaliser",
     "zeros",
 ];
 
@@ -117,6 +118,20 @@ fn ignoring() {
     assert_eq!(shown.rest, ["cell 0 3 41aa0000 1 0", "cell 1 2 00000065 2 0", "clock 2"]);
 }
 
+/// The total has both increments: 100, 3 and 4 are 107.
+#[test]
+fn a_totaliser() {
+    let shown = Shown::of("totaliser");
+    assert_eq!(shown.answers("enter 1"), [FALSE]);
+    assert_eq!(shown.answers("ignore 1"), [refused(15)]);
+    assert_eq!(shown.answers("reload 1"), [DONE]);
+    assert_eq!(shown.answers("reread 1 0"), [whole(104)]);
+    assert_eq!(shown.answers("finish 1"), [DONE]);
+    assert_eq!(shown.codes(), [15]);
+    // Stamp 1 is slot 2's; slot 1 has 2 by enter and 3 by reload.
+    assert_eq!(shown.rest, ["cell 0 2 0000006b 3 0", "clock 3"]);
+}
+
 #[test]
 fn a_lost_race() {
     let shown = Shown::of("race");
@@ -162,12 +177,13 @@ fn a_full_log() {
 }
 
 #[test]
-fn every_code_from_2_to_11_and_14() {
+fn every_code_from_2_to_11_with_14_and_15() {
     let shown = Shown::of("codes");
-    assert_eq!(shown.codes(), [2, 3, 4, 5, 6, 7, 8, 9, 14, 10, 11]);
+    assert_eq!(shown.codes(), [2, 3, 4, 15, 5, 6, 7, 8, 9, 14, 10, 11]);
     let by_step = [
         ("step 0 9 0 0 0x00000000", 2),
         ("begin 9", 3),
+        ("ignore 1", 15),
         ("read 1 17", 5),
         ("write 1 1 raw 1 0x00000002", 6),
         ("write 1 1 whole 0", 7),
@@ -176,11 +192,12 @@ fn every_code_from_2_to_11_and_14() {
     for (step, code) in by_step {
         assert_eq!(shown.answers(step), [refused(code)], "{step}");
     }
-    // Idle, with a full log, of a held cell, and of one that is newer by then.
-    let reads = [refused(4), refused(9), read_held(2), refused(10)];
+    // Idle, to be marked, with a full log, of a held cell, and of one that is
+    // newer by then.
+    let reads = [refused(4), whole(5), refused(9), read_held(2), refused(10)];
     assert_eq!(shown.answers("read 1 0"), reads);
-    assert_eq!(shown.answers("lock 1"), [held_by_another(3, 2)]);
-    assert_eq!(shown.rest[0], "cell 0 2 00000009 2 0");
+    assert_eq!(shown.answers("lock 1"), [DONE, held_by_another(3, 2)]);
+    assert_eq!(shown.rest[0], "cell 0 2 00000009 4 0");
     assert_eq!(shown.rest[3], "cell 3 2 00000003 0 2");
 }
 

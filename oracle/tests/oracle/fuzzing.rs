@@ -5,6 +5,7 @@ use oracle::{lay_out_on_bytes, step_in_place, step_on_bytes, wear_in_place, wear
 
 use crate::peek::Peek;
 use crate::slips::{self, Slip, Wear, BAD_SETS_TAKEN, SLIPS};
+use crate::wrong_ignores::{LENIENT_CHECKS, STRICT_CHECKS, WRONG_FLAGS, WRONG_IGNORES};
 use crate::wrong_obstacles::WRONG_OBSTACLES;
 
 pub type StepOnBytes = fn(&mut [u8], Call) -> u64;
@@ -12,6 +13,11 @@ type LayOut = fn(&mut [u8], &[u8]) -> u64;
 
 /// As many calls as the least counts are for.
 const CALLS: u64 = 250_000;
+
+/// How many sorts of rounds there are, which take turns. The first is of steps
+/// from a fresh area, and the last four are of lay-outs and of the wear task.
+const SORTS: usize = 11;
+const LAY_OUTS: u64 = 7;
 
 const RIGHT: Library = Library { step, lay_out: lay_out_on_bytes, wear: wear_on_bytes };
 
@@ -80,6 +86,34 @@ pub const IN_THE_WAY: [&str; 11] = [
     "code 9 of a read of a held cell:",
     "code 11 with the holder that is told least:",
     "code 14 with the holder that is told least:",
+];
+
+/// What is told short of a run in which nothing is marked.
+pub const IGNORED: [&str; 12] = [
+    "code 15:",
+    "ignores that set the flag:",
+    "code 15, one of several marked cells is written:",
+    "code 15, it is the first that was read:",
+    "code 15, it is the last that was read:",
+    "code 15, it is the lowest that is written:",
+    "code 15, it is the highest that is written:",
+    "ignores beside a cell in both logs, not marked:",
+    "ignores with the flag set before:",
+    "ignores with a cell in both logs and no mark:",
+    "commits with the flag and a cell in both logs:",
+    "code 15, then reload, update and commit:",
+];
+
+/// Those that damaged areas and tasks that level are needed for, too.
+const IGNORED_BY_SORT: [&str; 8] = [
+    "an update lost, in twilight:",
+    "an update lost, in publishing:",
+    "an update lost, in publishing, the cell is published already:",
+    "the flag set, 16 marked reads and 16 writes:",
+    "broken alone: the flag is 1 only if no marked cell",
+    "commits of tasks that levelled, marks ignored:",
+    "code 15 of tasks that levelled:",
+    "code 15 of tasks that levelled, repaired:",
 ];
 
 pub fn step(area: &mut [u8], call: Call) -> u64 {
@@ -176,7 +210,7 @@ fn the_wear_task_as_a_list_of_calls_is_right() {
     let library = Library { wear, ..RIGHT };
     let mut tally = Tally::default();
     // Rounds of the last three sorts only.
-    for round in (0..2000).filter(|round| round % 10 >= 7) {
+    for round in (0..2000).filter(|round| round % SORTS as u64 > LAY_OUTS) {
         one_round(library, 1, round, &mut tally).unwrap_or_else(|failure| panic!("{failure}"));
     }
     let short = tally.short();
@@ -187,7 +221,7 @@ fn the_wear_task_as_a_list_of_calls_is_right() {
 fn a_run_that_reaches_little_is_told_so() {
     let mut tally = Tally::default();
     // Rounds of the first sort only, and so many that no least count is 0.
-    for round in (0..8000).step_by(10) {
+    for round in (0..8000).step_by(SORTS) {
         one_round(RIGHT, 1, round, &mut tally).unwrap_or_else(|failure| panic!("{failure}"));
     }
     let short = tally.short();
@@ -209,13 +243,13 @@ fn a_run_that_reaches_little_is_told_so() {
 
 /// Lay-outs only, so that no slot is ever in another one's way.
 #[test]
-fn a_run_with_no_one_in_the_way_is_told_so() {
+fn a_run_with_no_one_in_the_way_and_nothing_to_ignore_is_told_so() {
     let mut tally = Tally::default();
-    for round in (6..20_000).step_by(10) {
+    for round in (LAY_OUTS..20_000).step_by(SORTS) {
         one_round(RIGHT, 1, round, &mut tally).unwrap_or_else(|failure| panic!("{failure}"));
     }
     let short = tally.short();
-    for start in IN_THE_WAY {
+    for start in IN_THE_WAY.into_iter().chain(IGNORED).chain(IGNORED_BY_SORT) {
         assert!(short.iter().any(|line| line.starts_with(start)), "{start} in {short:?}");
     }
 }
@@ -235,6 +269,24 @@ fn every_wrong_word_on_who_is_in_the_way_is_caught() {
         println!("{name}: round {}", failure.round);
         let is_answer = failure.report.contains("answer: wanted code");
         assert!(is_answer && !failure.report.contains("its byte"), "{name}: {failure}");
+    }
+}
+
+#[test]
+fn every_wrong_ignore_is_caught() {
+    for &(name, step) in WRONG_IGNORES.iter().chain(&WRONG_FLAGS).chain(&STRICT_CHECKS) {
+        let failure = run(Library { step, ..RIGHT }, 50_000).expect_err(name);
+        println!("{name}: round {}", failure.round);
+    }
+}
+
+/// At an area that loses an update, and not by chance at something else.
+#[test]
+fn every_update_that_may_be_lost_is_caught() {
+    for (name, step) in LENIENT_CHECKS {
+        let failure = run(Library { step, ..RIGHT }, 50_000).expect_err(name);
+        println!("{name}: round {}", failure.round);
+        assert!(failure.report.contains("answer: wanted code 1, kind 0"), "{name}: {failure}");
     }
 }
 

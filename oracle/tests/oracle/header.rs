@@ -50,13 +50,14 @@ fn codes_of_steps() {
         ("HELD_BY_ANOTHER", HeldByAnother { cell: 63, holder: 8 }),
         ("LAST_STAMP", ClockAtEnd),
         ("READ_HELD", ReadHeld { holder: 8 }),
+        ("MARKED_WRITTEN", MarkedWritten),
     ];
     for (name, refusal) in refusals {
         check(&format!("CODE_{name}"), refusal.code());
     }
     check("CODE_DONE", Reply::Done.code());
     check("CODE_ABORTED", Reply::Ended.code());
-    assert_eq!(names_with("CODE"), 15);
+    assert_eq!(names_with("CODE"), 16);
 }
 
 /// What they make of a word is checked where they are compiled, in

@@ -38,6 +38,7 @@ fn all_refusals_but_two_are_bare() {
         (LogFull, 9),
         (ReadNewer, 10),
         (ClockAtEnd, 12),
+        (MarkedWritten, 15),
     ];
     for (refusal, code) in bare {
         assert_eq!(Reply::Refused(refusal).number(), code << 40, "{refusal:?}");

@@ -99,6 +99,19 @@ impl Peek<'_> {
         entries.map(|entry| self.0[self.read_at(slot, entry) + 1]).collect()
     }
 
+    /// The cells of the marked entries, in the order of the read log.
+    pub fn marked_cells(&self, slot: u8) -> Vec<usize> {
+        let entries = self.read_cells(slot).into_iter().zip(self.marks(slot));
+        entries.filter(|(_, mark)| *mark == 1).map(|(cell, _)| cell).collect()
+    }
+
+    /// Those of them that are in the write log, too.
+    pub fn marked_and_written(&self, slot: u8) -> Vec<usize> {
+        let mut cells = self.marked_cells(slot);
+        cells.retain(|cell| self.write_cells(slot).contains(cell));
+        cells
+    }
+
     fn all_zero(&self, from: usize, to: usize) -> bool {
         self.0[from..to].iter().all(|byte| *byte == 0)
     }
@@ -146,6 +159,7 @@ fn slot_is_good(peek: &Peek, slot: u8) -> bool {
         && commit <= peek.clock()
         && (1..=8).all(|other| other == slot || peek.commit(other) != commit)
         && flag <= u8::from(some_mark)
+        && (flag == 0 || peek.marked_and_written(slot).is_empty())
         && marks.iter().all(|mark| *mark <= 1);
     let not_entered = commit == 0 && flag == 0 && marks.iter().all(|mark| *mark == 0);
     let by_phase = match peek.phase(slot) {
@@ -199,9 +213,9 @@ fn holders_are_good(peek: &Peek) -> bool {
     (0..peek.n()).all(|cell| peek.holder(cell) == holders[cell])
 }
 
-/// The codes of refusals in the order in which they are tested: 14 is at the
-/// place of 10 and before it.
-const TESTED: [u8; 12] = [2, 3, 4, 5, 6, 7, 8, 9, 14, 10, 11, 12];
+/// The codes of refusals in the order in which they are tested: 15 comes after
+/// 4, and 14 is at the place of 10 and before it.
+const TESTED: [u8; 13] = [2, 3, 4, 15, 5, 6, 7, 8, 9, 14, 10, 11, 12];
 
 /// The code of a call on a well-formed area: the first that applies, 13 if
 /// the transaction ends without commit, else 0.
@@ -248,6 +262,7 @@ fn applies(peek: &Peek, code: u8, call: Call) -> bool {
         2 => step == 0 || step > 14,
         3 => slot == 0 || slot > 8,
         4 => !allowed(peek, step, slot),
+        15 => step == 11 && !peek.marked_and_written(slot).is_empty(),
         5 => [2, 3, 7, 8, 9].contains(&step) && cell >= peek.n(),
         6 => brings_value && !legal(call.kind, call.word),
         7 => brings_value && call.kind != peek.kind(cell),

@@ -43,6 +43,26 @@ const HOLDER: usize = 15;
 const OPEN: [&str; 4] = ["begin 1", "read 1 0", "read 1 2", "write 1 0 whole 6"];
 const LOCKED: [&str; 4] = ["begin 1", "write 1 0 whole 6", "close 1", "lock 1"];
 const TWILIGHT: [&str; 4] = ["begin 1", "read 1 0", "close 1", "enter 1"];
+/// Cells 0 and 2 are read and marked, cell 0 is written, too.
+const MARKED: [&str; 17] = [
+    "begin 1",
+    "read 1 0",
+    "read 1 2",
+    "write 1 0 whole 6",
+    "begin 2",
+    "write 2 0 whole 8",
+    "write 2 2 whole 9",
+    "close 2",
+    "lock 2",
+    "lock 2",
+    "enter 2",
+    "finish 2",
+    "publish 2",
+    "publish 2",
+    "close 1",
+    "lock 1",
+    "enter 1",
+];
 const PUBLISHING: [&str; 7] =
     ["begin 1", "read 1 2", "write 1 0 whole 6", "close 1", "lock 1", "enter 1", "finish 1"];
 
@@ -149,11 +169,59 @@ fn examples_of_phases() -> Vec<Example> {
     ]
 }
 
+/// Slot 1 has the flag on its mark of cell 2, and cells 0 and 1 in both logs, of
+/// which cell 0 is published already.
+fn ignoring_and_publishing() -> Vec<u8> {
+    let mut lines = vec!["begin 1", "read 1 0", "read 1 1", "read 1 2", "write 1 0 whole 6"];
+    lines.extend(["write 1 1 truth 1", "begin 2", "write 2 2 whole 9", "close 2", "lock 2"]);
+    lines.extend(["enter 2", "finish 2", "publish 2", "close 1", "lock 1", "lock 1", "enter 1"]);
+    lines.extend(["ignore 1", "finish 1", "publish 1"]);
+    after(&lines)
+}
+
+/// The flag, the mark, or the written cell makes it so.
+fn examples_of_lost_updates() -> Vec<Example> {
+    let lost = "the flag is 1 only if no marked cell is also in the write log";
+    let with = |patches: &[(usize, u8)]| {
+        let mut area = ignoring_and_publishing();
+        patches.iter().for_each(|(at, byte)| area[*at] = *byte);
+        area
+    };
+    let second = MARK + 6;
+    let third = MARK + 12;
+    vec![
+        (lost, patched(&MARKED, &[(slot(1, FLAG), 1)])),
+        (lost, patched(&MARKED, &[(slot(1, FLAG), 1), (slot(1, second), 0)])),
+        // Cell 0 is published, cell 1 is not.
+        (lost, with(&[(slot(1, MARK), 1)])),
+        (lost, with(&[(slot(1, second), 1)])),
+        (lost, with(&[(slot(1, MARK), 1), (slot(1, third), 0)])),
+        (lost, with(&[(slot(1, second), 1), (slot(1, third), 0)])),
+        // The cell that is not published is cell 2 now, with its holder.
+        (lost, with(&[(slot(1, WRITES + 5), 2), (HOLDER + 14, 0), (HOLDER + 28, 1)])),
+    ]
+}
+
+/// Next to them: what is marked is not written, or the flag is not set.
+#[test]
+fn marks_that_lose_no_update_are_well_formed() {
+    let areas = [
+        patched(&MARKED, &[]),
+        patched(&MARKED, &[(slot(1, FLAG), 1), (slot(1, MARK), 0)]),
+        ignoring_and_publishing(),
+    ];
+    for area in areas {
+        assert_eq!(faults(&area), [""; 0]);
+        assert!(peek::well_formed(&area));
+    }
+}
+
 #[test]
 fn each_sentence_can_be_broken_alone() {
     let mut examples = examples_of_header_and_cells();
     examples.extend(examples_of_logs());
     examples.extend(examples_of_phases());
+    examples.extend(examples_of_lost_updates());
     for (sentence, area) in &examples {
         assert_eq!(faults(area), [*sentence]);
         assert!(!peek::well_formed(area), "{sentence}");
@@ -165,7 +233,7 @@ fn each_sentence_can_be_broken_alone() {
 
 #[test]
 fn the_areas_that_the_examples_start_from_are_well_formed() {
-    for lines in [&OPEN[..], &LOCKED, &TWILIGHT, &PUBLISHING, &[]] {
+    for lines in [&OPEN[..], &LOCKED, &TWILIGHT, &MARKED, &PUBLISHING, &[]] {
         let area = after(lines);
         assert_eq!(faults(&area), [""; 0]);
         assert_eq!(Peek(&area).n(), 3);

@@ -9,7 +9,7 @@ use crate::examples::{FOLDER, NAMES};
 const PICTURES: &str = concat!(env!("CARGO_MANIFEST_DIR"), "/../docs/img");
 
 /// Those under `docs/img`.
-const COMMITTED: [&str; 4] = ["blocked", "race", "reload", "s"];
+const COMMITTED: [&str; 5] = ["blocked", "race", "reload", "s", "totaliser"];
 
 fn example(name: &str) -> Vec<u8> {
     std::fs::read(format!("{FOLDER}/{name}.txt")).expect("an example")
@@ -235,6 +235,22 @@ fn sheet_s_at_the_steps_that_matter() {
     assert_eq!(drawing.words_at(17), ["stamp 3", "reload", "no marks"]);
     assert_eq!(drawing.words_at(20), ["commit", "finish", "stamp 3"]);
     assert_eq!(drawing.words_at(21), ["publish", "cell 1", ":= 10"]);
+}
+
+/// The first cell that is marked and written is told at the step, and what the
+/// code means in the legend.
+#[test]
+fn the_totaliser_at_the_steps_that_matter() {
+    let case = Case::example("totaliser");
+    let drawing = Drawing::of(&case.svg);
+    assert_eq!(drawing.words_at(14), ["mark 0", "stamp 2", "enter", "cell 0", "is newer"]);
+    assert_eq!(drawing.words_at(15), ["code 15", "ignore", "cell 0", "is written"]);
+    assert_eq!(drawing.words_at(16), ["stamp 3", "reload", "no marks"]);
+    assert_eq!(drawing.words_at(18), ["update", "cell 0", ":= 107"]);
+    assert_eq!(drawing.words_at(20), ["publish", "cell 0", ":= 107"]);
+    let meaning = "some marked cell is also in the slot's write log";
+    assert!(drawing.texts.iter().any(|text| text.words == meaning));
+    assert!(case.plain.contains(&format!("\ncode 15: {meaning}\n")));
 }
 
 #[test]

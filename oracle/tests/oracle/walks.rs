@@ -9,7 +9,7 @@ use crate::ledger::Ledger;
 /// What the walks have reached, so that they can't test nothing unseen.
 #[derive(Default, Debug)]
 struct Tally {
-    codes: [u64; 15],
+    codes: [u64; 16],
     made: [u64; 15],
     commits: u64,
     commits_with_marks_ignored: u64,
@@ -47,7 +47,7 @@ impl Tally {
     }
 
     fn check(&self) {
-        for code in [0, 2, 3, 4, 5, 6, 7, 8, 9, 10, 11, 12, 13, 14] {
+        for code in [0, 2, 3, 4, 5, 6, 7, 8, 9, 10, 11, 12, 13, 14, 15] {
             assert!(self.codes[code] >= 100, "code {code} in {self:?}");
         }
         assert_eq!(self.codes[1], 0);
@@ -68,7 +68,7 @@ fn step(bench: &mut Bench, call: Call, ledger: &mut Ledger, tally: &mut Tally) {
     if [0, 13].contains(&answer.0) {
         effects::check(&before, bench, call, answer);
     }
-    ledger.note(&before.machine, call, answer);
+    ledger.note(&before.peek(), call, answer.0);
     tally.note(&before, call, answer);
 }
 
@@ -88,18 +88,18 @@ fn walks_from_a_fresh_area_keep_every_rule() {
     for seed in 0..400 {
         let mut random = Random::new(seed);
         let n = random.cell_count();
-        let mut bench = Bench::fresh(&random.values(n));
+        let tasks = random.tasks();
+        let mut bench = Bench::fresh(&random.values_for(tasks, n));
         if random.one_in(4) {
             bench = bench.at_clock(u64::MAX - random.up_to(40));
         }
-        let habit = random.habit();
-        let mut ledger = Ledger::new(&bench.machine);
+        let mut ledger = Ledger::new(&bench.peek());
         for _ in 0..400 {
-            let call = random.likely_call(&bench.machine, habit);
+            let call = random.call_of(tasks, &bench.machine);
             step(&mut bench, call, &mut ledger, &mut tally);
         }
         come_to_rest(&mut bench, &mut ledger, &mut tally);
-        ledger.replay(&bench.machine);
+        ledger.replay(&bench.peek());
     }
     tally.check();
 }
@@ -107,7 +107,7 @@ fn walks_from_a_fresh_area_keep_every_rule() {
 /// Well-formed areas that no steps lead to must be stepped on just as well.
 #[test]
 fn single_steps_on_any_well_formed_area_keep_every_rule() {
-    let mut codes = [0; 15];
+    let mut codes = [0; 16];
     let mut made = [0; 15];
     for seed in 0..12_000 {
         let mut random = Random::new(seed);
@@ -125,7 +125,7 @@ fn single_steps_on_any_well_formed_area_keep_every_rule() {
             made[usize::from(call.step)] += 1;
         }
     }
-    assert!((2..=14).all(|code| codes[code] >= 20), "{codes:?}");
+    assert!((2..=15).all(|code| codes[code] >= 20), "{codes:?}");
     assert!((1..=14).all(|step| made[step] >= 40), "{made:?}");
 }
 

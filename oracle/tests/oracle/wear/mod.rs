@@ -1,6 +1,7 @@
 //! The wear task of request #101: each row of the table of its codes, and
 //! each sentence of the request.
 
+mod ignoring;
 mod meetings;
 mod order;
 mod picks;
