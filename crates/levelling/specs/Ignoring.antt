@@ -103,7 +103,8 @@ pub record IgnoreRefused : Type 0 where
   pub operation : wear controller (endState controller oneGroup (alone 1 3 ∷ [])) itsSet 3 .state ≡ endState controller oneGroup (levelsTo 3 6)
   -- Once it has entered, the truth cell is not marked and the erases cell is.
   pub marked : toldAfter countMarked asks ≡ (shown 0 1 0 ∷ shown 0 1 1 ∷ [])
-  -- Its ignore is refused with 15, for a marked cell is also in its write log. If it finishes all the same it is told 13: its transaction is aborted, nothing of it is written, and the count stays at 7.
+  -- Its ignore is refused with 15, for a marked cell is also in its write log. If it finishes all the same it is told 13: its transaction is aborted, nothing of it is
+  -- written, and the count stays at 7.
   pub refused : toldAfter countMarked ignores ≡ (refusedWith 15 ∷ shown 13 0 0 ∷ [])
   pub stays : countAfter rightStep (countMarked ++ ignores) ≡ 7
 
