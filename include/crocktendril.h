@@ -53,7 +53,9 @@ extern "C" {
  *   14 + 14*n + 197*(s-1)  197  slot s
  *     0                    1      phase: 0 idle, 1 open, 2 locking,
  *                                 3 twilight, 4 publishing
- *     1                    1      ignoring flag
+ *     1                    1      ignoring flag: 1 only if some read is marked,
+ *                                 and no cell with a marked read is in the
+ *                                 write log, published or not
  *     2                    1      taken: locks taken in phase 2, cells
  *                                 published in phase 4
  *     3                    1      read count
@@ -105,8 +107,11 @@ extern "C" {
  *                                     the cell is marked
  *   RELOAD   twilight                 logs the present values of all cells that
  *                                     were read, clears marks and flag, gives
- *                                     a new commit stamp
- *   IGNORE   twilight                 lets FINISH commit in spite of marks
+ *                                     a new commit stamp; logged writes stay
+ *                                     as they were
+ *   IGNORE   twilight                 lets FINISH commit in spite of marks, all of
+ *                                     them at once; but see MARKED_WRITTEN.
+ *                                     Without a mark it changes nothing
  *   FINISH   twilight                 commits, and goes on to publishing, or to
  *                                     idle if nothing was written; with a mark
  *                                     that is not ignored, see ABORTED
@@ -136,7 +141,8 @@ extern "C" {
  * refusal but an outcome, with kind and word 0.
  *
  * Of those that apply the lowest is given, with one exception: READ_HELD is
- * tested before READ_NEWER, and after LOG_FULL.
+ * tested before READ_NEWER, and after LOG_FULL. MARKED_WRITTEN is tested next
+ * after NOT_ALLOWED; no code that is tested later applies to IGNORE.
  *
  * WARNING: HELD_BY_ANOTHER and READ_HELD have kind WHOLE, and their word is
  * no cell's value. Look at the code before you take the word for a value.
@@ -169,6 +175,12 @@ extern "C" {
  *                    holder. Let it run and try again, a few times; then give
  *                    up. Once the cell is free, the read is done or gets
  *                    READ_NEWER
+ *   MARKED_WRITTEN   IGNORE: some marked cell is also in the slot's write log.
+ *                    Committed, that write would undo what another slot has
+ *                    published since the read. RELOAD, REREAD the cell, UPDATE
+ *                    it with what follows from its present value, FINISH; or
+ *                    give up and begin anew. Trying again never helps, and a
+ *                    FINISH without RELOAD gets ABORTED
  */
 #define CROCKTENDRIL_CODE_DONE 0
 #define CROCKTENDRIL_CODE_NOT_WELL_FORMED 1
@@ -185,6 +197,7 @@ extern "C" {
 #define CROCKTENDRIL_CODE_LAST_STAMP 12
 #define CROCKTENDRIL_CODE_ABORTED 13
 #define CROCKTENDRIL_CODE_READ_HELD 14
+#define CROCKTENDRIL_CODE_MARKED_WRITTEN 15
 
 /*
  * A step's reply is one number, code * 2^40 + kind * 2^32 + word. These macros

@@ -94,6 +94,12 @@ extern "C" {
  * fewest erases, the lowest number on a tie, and writes its count plus one: all
  * in the slot's transaction, which stays open. The count is shared once it is
  * closed, locked, entered, finished and published.
+ *
+ * The erases cell of the picked group is then in both logs. If ENTER marks it,
+ * IGNORE gets MARKED_WRITTEN: RELOAD, and if the same group would be picked of
+ * the reloaded values, UPDATE its count with the reloaded one plus one; else
+ * give up and begin anew. Marks on other cells may be ignored. The count still
+ * goes up by exactly one, but another group may be the least worn by then.
  */
 uint64_t crocktendril_wear(uint8_t *area, size_t area_len, const uint8_t *set, size_t set_len,
                            uint8_t slot);

@@ -36,7 +36,7 @@ BACK = [
 STAY = {
     1: [("read", "", "5 9 14 10"), ("write", "", "5 6 7 9")],
     2: [("lock", "one is missing", "11")],
-    3: [("reread", "", "5 8"), ("update", "", "5 6 7 8"), ("ask", "", "5 8"), ("reload", "", "11 12"), ("ignore", "", "")],
+    3: [("reread", "", "5 8"), ("update", "", "5 6 7 8"), ("ask", "", "5 8"), ("reload", "", "11 12"), ("ignore", "", "15")],
     4: [("publish", "more are left", "")],
 }
 

@@ -27,6 +27,12 @@ typedef char cell_63[CROCKTENDRIL_HELD_CELL(LOCK_WORD) == 63 ? 1 : -1];
 typedef char held_by_8[CROCKTENDRIL_HOLDER(LOCK_WORD) == 8 ? 1 : -1];
 typedef char held_by_1[CROCKTENDRIL_HOLDER(READ_WORD) == 1 ? 1 : -1];
 
+/* Code 15, kind and word 0. */
+#define OF_AN_IGNORE ((uint64_t)0xF00 << 32)
+#define WRITTEN_TOO CROCKTENDRIL_CODE_MARKED_WRITTEN
+typedef char code_15[CROCKTENDRIL_REPLY_CODE(OF_AN_IGNORE) == WRITTEN_TOO ? 1 : -1];
+typedef char kind_0[CROCKTENDRIL_REPLY_KIND(OF_AN_IGNORE) == CROCKTENDRIL_KIND_NONE ? 1 : -1];
+
 /* What the caller hands in is taken whole, also without brackets of its own. */
 typedef char cell_2[CROCKTENDRIL_HELD_CELL(512 | 3) == 2 ? 1 : -1];
 typedef char held_by_3[CROCKTENDRIL_HOLDER(512 | 3) == 3 ? 1 : -1];

@@ -63,7 +63,8 @@ static const uint8_t set[CROCKTENDRIL_WEAR_SET_LENGTH(GROUPS)] = {
 static const char *const code_names[] = {
     "done",         "not well formed", "no such step", "no such slot",   "not allowed",
     "no such cell", "illegal value",   "other kind",   "not in the log", "log full",
-    "newer",        "held by another", "last stamp",   "aborted",        "held"};
+    "newer",        "held by another", "last stamp",   "aborted",        "held",
+    "marked and written"};
 
 /* By slot, from 1. */
 static const char *const task_names[TASKS] = {"logger", "recipes", "monitor"};
@@ -235,7 +236,8 @@ static uint8_t enter(struct task *task)
     return CROCKTENDRIL_STEP_FINISH;
 }
 
-/* Commits. With a mark the transaction is aborted instead, and begins again. */
+/* Commits. With a mark the transaction is aborted instead, and begins again.
+   Here it is the picked count that is marked, so to ignore it would be refused. */
 static uint8_t finish(struct task *task)
 {
     switch (take(task, CROCKTENDRIL_STEP_FINISH, "finish")) {

@@ -1,35 +1,43 @@
--- The read log of a slot of a good area: it fits its array and each entry is of a cell of the area, since the slot's logs are right.
+-- The logs of a slot of a good area: each fits its array and each entry is of a cell of the area, since the slot's logs are right.
 use mathlib.Core.Bool.{true}
 use mathlib.Core.List.{List}
 use mathlib.Core.Path.{_≡_, refl, ap, _∙_}
-use Prim.Native.Nat.{ℕ, _-_, _≤_, _<_}
-use lib.ListN.{length, getD, replicate, List·getD-append}
+use Prim.Native.Nat.{ℕ, _≤_, _<_}
+use lib.Dec.{ltb}
+use lib.ListN.{length, getD, take}
+use lib.Seq.{getD-take}
 use borrow.Author.Tests.{ltb-true}
+use Rattle.value.specs.Legal.{legalWord}
 use Rattle.slot.specs.declared.ReadEntry.{ReadEntry}
+use Rattle.slot.specs.declared.WriteEntry.{WriteEntry}
 use Rattle.slot.specs.declared.SlotRecord.{SlotRecord}
-use Rattle.slot.specs.Layout.{readCapacity, noRead}
+use Rattle.slot.specs.Layout.{readCapacity, writeCapacity, noRead, noWrite}
+use Rattle.slot.specs.Logic.{_and_, all}
 use Rattle.slot.specs.Logs.{paddedReads}
 use Rattle.slot.proofs.Logic.{and-left, and-right, all-at}
 use Rattle.slot.proofs.Padding.{length-padded}
 use Rattle.rules.specs.Model.{controller}
-use Rattle.rules.specs.State.{Slot, idle, opened, locking, twilight, publishing, readsOf, slotAt}
-use Rattle.rules.specs.LogsRight.{loggedRight, readsRight}
+use Rattle.rules.specs.State.{Slot, idle, opened, locking, twilight, publishing, readsOf, writesOf, startOf, slotAt, noCell}
+use Rattle.rules.specs.LogsRight.{loggedRight, readsRight, writesRight}
 use Rattle.rules.specs.StateRight.{slotRight, stateRightButHolders}
 use Rattle.rules.specs.Layout.{countIn, lay}
 use Rattle.rules.specs.declared.Cell.{Cell}
-use Rattle.rules.proofs.StateSized.{slot-logs-hold}
+use Rattle.rules.proofs.StateSized.{LogsHold, slot-logs-hold}
+use Rattle.rules.proofs.LayView.{read-log, write-log}
 use Rattle.rules.proofs.RoundTrip.{state-right, state-but-holders}
 use Rattle.rules.proofs.AreaRead.{count-read, slots-read}
 use Rattle.area.specs.Good.{Good, stateIn}
 use Rattle.area.specs.InPlace.{recordAt, fieldsIn}
 
--- the read log of v fits its array, and each entry is of a cell of the area
+-- each log of v fits its array, and each entry is of a cell of the area
 pub record Logged (l : List ℕ) (v : SlotRecord) : Type 0 where
   pub whole : length (v .reads) ≡ readCapacity
   pub most : v .readcount ≤ readCapacity
   pub inside : (k : ℕ) → k < v .readcount → getD (v .reads) k noRead .cell < countIn l
+  pub writesMost : v .writecount ≤ writeCapacity
+  pub writesInside : (k : ℕ) → k < v .writecount → getD (v .writes) k noWrite .cell < countIn l
 
--- a slot's record has its read log, padded
+-- a slot's record has its read log, padded, and the lengths of both logs
 reads-laid : (x : Slot) → lay x .reads ≡ paddedReads (readsOf x)
 reads-laid idle = refl
 reads-laid (opened start reads writes) = refl
@@ -44,20 +52,20 @@ count-laid (locking taken start reads writes) = refl
 count-laid (twilight ignoring start commit reads writes) = refl
 count-laid (publishing ignoring taken start commit reads writes) = refl
 
-module _ (cells : List Cell) (clock : ℕ) where
-  -- reads that fit the array, each of a cell
-  record ReadsHold (reads : List ReadEntry) : Type 0 where
-    most : length reads ≤ readCapacity
-    inside : (k : ℕ) → k < length reads → getD reads k noRead .cell < length cells
+written-laid : (x : Slot) → lay x .writecount ≡ length (writesOf x)
+written-laid idle = refl
+written-laid (opened start reads writes) = refl
+written-laid (locking taken start reads writes) = refl
+written-laid (twilight ignoring start commit reads writes) = refl
+written-laid (publishing ignoring taken start commit reads writes) = refl
 
-  reads-hold : (x : Slot) → slotRight cells clock x ≡ true → ReadsHold (readsOf x)
-  unfolding readsRight loggedRight
-  reads-hold x p =
-      let logs = slot-logs-hold cells clock x p in
-      record {
-        most = logs .readsFew;
-        inside = λ k h. ltb-true _ _ (and-left _ _ (all-at (λ (e : ReadEntry). loggedRight cells (e .cell) (e .word)) (readsOf x) noRead (and-left _ _ (logs .readsHold)) k h));
-      }
+-- a log of any kind, as far as its count goes, in the front of its array: each entry is of a cell
+front-inside : {A : Type 0} (cell word : A → ℕ) (d : A) (cells : List Cell) (array log : List A) (count : ℕ) → take count array ≡ log → count ≡ length log
+    → all (λ e. loggedRight cells (cell e) (word e)) log ≡ true → (k : ℕ) → k < count → cell (getD array k d) < length cells
+unfolding loggedRight
+front-inside cell word d cells array log count front size p k h =
+    rw (← getD-take count array k d h, front)
+    (ltb-true _ _ (and-left _ _ (all-at (λ e. ltb (cell e) (length cells) and legalWord (getD cells (cell e) noCell .kind) (word e)) log d p k (rw (← size) h))))
 
 -- each slot of a good area is right
 pub slot-holds : (l : List ℕ) → Good l → (i : ℕ) → i < 8 → slotRight (stateIn l .cells) (stateIn l .clock) (slotAt (stateIn l) i) ≡ true
@@ -67,21 +75,26 @@ slot-holds l good i h =
     all-at (slotRight (stateIn l .cells) (stateIn l .clock)) (stateIn l .slots) idle (and-left _ _ (and-right _ _ (and-right _ _ (and-right _ _ right)))) i
     (rw (slots-read controller l) h)
 
--- the record of a slot whose reads hold
-logged-laid : (l : List ℕ) (x : Slot) → ReadsHold (stateIn l .cells) (stateIn l .clock) (readsOf x) → Logged l (lay x)
-logged-laid l x holds =
+-- the record of a slot whose logs hold
+logged-laid : (l : List ℕ) (x : Slot) → LogsHold (stateIn l .cells) (stateIn l .clock) (startOf x) (readsOf x) (writesOf x) → Logged l (lay x)
+unfolding readsRight writesRight
+logged-laid l x logs =
     record {
-      whole = ap length (reads-laid x) ∙ length-padded noRead (readsOf x) readCapacity (holds .most);
-      most = rw (count-laid x) (holds .most);
-      inside = λ k b.
-          let below : k < length (readsOf x) = rw (count-laid x) at b in
-          rw (reads-laid x, List·getD-append (readsOf x) (replicate (readCapacity - length (readsOf x)) noRead) noRead k below, ← count-read controller l) (holds .inside k below);
+      whole = ap length (reads-laid x) ∙ length-padded noRead (readsOf x) readCapacity (logs .readsFew);
+      most = rw (count-laid x) (logs .readsFew);
+      inside = rw (← count-read controller l)
+          (front-inside (λ (e : ReadEntry). e .cell) (λ (e : ReadEntry). e .word) noRead (stateIn l .cells) (lay x .reads) (readsOf x) (lay x .readcount)
+          (read-log x) (count-laid x) (and-left _ _ (logs .readsHold)));
+      writesMost = rw (written-laid x) (logs .writesFew);
+      writesInside = rw (← count-read controller l)
+          (front-inside (λ (e : WriteEntry). e .cell) (λ (e : WriteEntry). e .word) noWrite (stateIn l .cells) (lay x .writes) (writesOf x) (lay x .writecount)
+          (write-log x) (written-laid x) (and-left _ _ (logs .writesHold)));
     }
 
 -- the record of a slot of a good area
 pub logged-of : (l : List ℕ) → Good l → (i : ℕ) → i < 8 → (v : SlotRecord) → v ≡ lay (slotAt (stateIn l) i) → Logged l v
 logged-of l good i h v e =
-    rw e (logged-laid l (slotAt (stateIn l) i) (reads-hold (stateIn l .cells) (stateIn l .clock) (slotAt (stateIn l) i) (slot-holds l good i h)))
+    rw e (logged-laid l (slotAt (stateIn l) i) (slot-logs-hold (stateIn l .cells) (stateIn l .clock) (slotAt (stateIn l) i) (slot-holds l good i h)))
 
 -- its read log, of which the slot's fields give the count
 pub record Counted (l : List ℕ) (i n : ℕ) : Type 0 where

@@ -10,7 +10,7 @@ use lib.ListN.{getD, take}
 use Rattle.wire.specs.Table.{cat, tab}
 use Rattle.wire.proofs.Laws.Table.{length-tab, getD-tab, tab-ext, tab-take}
 use Rattle.slot.specs.Logic.{_and_, _or_, every, all, any, pairwise}
-use Rattle.slot.proofs.Logic.{and-true, true-and, and-assoc, false-or, or-false, or-assoc}
+use Rattle.slot.proofs.Logic.{and-true, true-and, and-assoc, or-false, any-snoc}
 use Rattle.logcheck.proofs.Chains.{and-comm, and-swap, every-and}
 
 module _ {A : Type 0} where
@@ -19,11 +19,6 @@ module _ {A : Type 0} where
   unfolding all
   all-snoc p [] x = and-true (p x) ∙ sym (true-and (p x))
   all-snoc p (y ∷ l) x = ap (λ (b : Bool). p y and b) (all-snoc p l x) ∙ sym (and-assoc (p y) (all p l) (p x))
-
-  pub any-snoc : (p : A → Bool) (l : List A) (x : A) → any p (l ++ (x ∷ [])) ≡ (any p l or p x)
-  unfolding any
-  any-snoc p [] x = or-false (p x) ∙ sym (false-or (p x))
-  any-snoc p (y ∷ l) x = ap (λ (b : Bool). p y or b) (any-snoc p l x) ∙ sym (or-assoc (p y) (any p l) (p x))
 
   pairwise-snoc : (R : A → A → Bool) (l : List A) (x : A) → pairwise R (l ++ (x ∷ [])) ≡ (pairwise R l and all (λ y. R y x) l)
   unfolding all pairwise

@@ -1,1 +1,2 @@
 pub mod Reload
+pub mod MarkedWritten

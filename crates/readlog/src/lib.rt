@@ -1,4 +1,5 @@
-// What the cells say of a slot's read log: its marks at enter, its words at reload, and the first cell that stands in reload's way.
+// What the cells say of a slot's read log: its marks at enter, its words at reload, and the first cell that stands in reload's way. And what the write log says of it: whether it
+// has a marked cell too.
 ghost use mathlib.Core.Path.{_≡_};
 ghost use Prim.Native.Nat.{_<_};
 ghost use Rattle.slot.specs.Logic.{_or_};
@@ -6,6 +7,7 @@ ghost use Rattle.rules.specs.Cells.{heldByOther, newer, withMark, reloaded};
 ghost use Rattle.rules.specs.Layout.{countIn};
 ghost use Rattle.area.specs.Good.{Good, stateIn};
 ghost use Rattle.readlog.specs.Reload.{markedReads, reloadedReads, obstacleIn};
+ghost use Rattle.readlog.specs.MarkedWritten.{markedWrittenIn};
 use rules::Cell;
 use slot::ReadEntry;
 use slot::SlotRecord;
@@ -109,4 +111,12 @@ pub fn first_obstacle(s: &[u8], i: u8) -> Obstacle
         }
         left -= 1;
     }
+}
+
+// Whether some marked cell is also in the write log of slot `i`.
+pub fn marked_written(s: &[u8], i: u8) -> bool
+    requires { ⌜ Good (now s) × (i < 8) ⌝ }
+    ensures { λ r. ⌜ r ≡ markedWrittenIn (now (s .entry)) i ⌝ }
+{
+    bothlogs::marked_written(s, area::slot_offset(s, i), area::STAMP)
 }

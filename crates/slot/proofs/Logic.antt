@@ -1,13 +1,13 @@
--- Laws of and, every, all and pairwise. Callers use these, never the definitions' text.
+-- Laws of and, or, every, all, any and pairwise. Callers use these, never the definitions' text.
 use mathlib.Core.Bool.{Bool, true, false, false≢true}
-use mathlib.Core.List.{List, [], _∷_, map}
+use mathlib.Core.List.{List, [], _∷_, _++_, map}
 use mathlib.Core.Path.{_≡_, refl, sym, _∙_, ap, ap₂}
 use Prim.Native.Nat.{ℕ, zero, suc, _<_}
 use native.Mathlib.Omega.{arith}
 use native.Mathlib.Nat.{not-suc-le-zero, le-of-suc-le-suc}
 use lib.ListN.{length, getD}
 use borrow.Author.Count.{below-more}
-use Rattle.slot.specs.Logic.{_and_, _or_, every, all, pairwise}
+use Rattle.slot.specs.Logic.{_and_, _or_, every, all, any, pairwise}
 
 pub and-intro : (a b : Bool) → a ≡ true → b ≡ true → (a and b) ≡ true
 unfolding _and_
@@ -129,6 +129,16 @@ module _ {A : Type 0} where
   unfolding all
   all-ext f g [] e = refl
   all-ext f g (x ∷ l) e = ap₂ _and_ (e x) (all-ext f g l e)
+
+  -- some element of two lists, and of one with an element more at its end
+  pub any-append : (f : A → Bool) (l m : List A) → any f (l ++ m) ≡ (any f l or any f m)
+  unfolding any
+  any-append f [] m = sym (false-or (any f m))
+  any-append f (x ∷ l) m = ap (λ (b : Bool). f x or b) (any-append f l m) ∙ sym (or-assoc (f x) (any f l) (any f m))
+
+  pub any-snoc : (f : A → Bool) (l : List A) (x : A) → any f (l ++ (x ∷ [])) ≡ (any f l or f x)
+  unfolding any
+  any-snoc f l x = any-append f l (x ∷ []) ∙ ap (λ (b : Bool). any f l or b) (or-false (f x))
 
   -- pairwise of mapped elements
   pub pairwise-map : {B : Type 0} (R : B → B → Bool) (Q : A → A → Bool) (g : A → B) (l : List A) → ((x y : A) → R (g x) (g y) ≡ Q x y)

@@ -6,10 +6,12 @@ use lib.Dec.{leb}
 use lib.ListN.{drop}
 use Rattle.wire.specs.Field.{be}
 use Rattle.slot.specs.declared.SlotRecord.{SlotRecord}
-use Rattle.slot.specs.Layout.{commitAt, slotSize}
+use Rattle.slot.specs.Layout.{commitAt, slotSize, slotOf}
 use Rattle.slot.specs.Logic.{_and_, every}
+use Rattle.slot.specs.Logs.{readLog, writeLog}
 use Rattle.rules.specs.Model.{controller}
 use Rattle.rules.specs.Layout.{cellsIn, slotPlace, recordsIn}
+use Rattle.rules.specs.LogsRight.{noUpdateLost}
 use Rattle.rules.specs.AreaRight.{takenRight, commitRight, slotPlaceRight, commitsApart}
 
 -- a slot, of which l are the bytes from its place on, in the area a at a clock
@@ -27,6 +29,10 @@ stampIn n a k = be 8 (drop (14 + 14 * n + slotSize 8 * k + commitAt 8) a)
 -- the commit stamps of the slots, apart from each other
 abbrev pub stampsRight : List ℕ → Bool
 stampsRight a = commitsApart (recordsIn controller a)
+
+-- no marked cell of a slot with the flag is also in its write log
+abbrev pub slotUpdateKept : List ℕ → Bool
+slotUpdateKept l = noUpdateLost (slotOf 8 l .ignoring) (readLog (slotOf 8 l)) (writeLog (slotOf 8 l))
 
 -- start, taken and commit stamp
 unfoldable pub numbersRight : ℕ → SlotRecord → Bool

@@ -1,4 +1,4 @@
-// Whether the slots of an area are right but for the holders: of each its phase, counts, logs, stamps, unused entries and marks; then the commit stamps apart.
+// Whether the slots of an area are right but for the holders: of each its phase, counts, logs, stamps, unused entries, marks and flag; then the commit stamps apart.
 ghost use mathlib.Core.Path.{_≡_};
 ghost use Prim.Native.Nat.{_≤_, _<_};
 ghost use lib.ListN.{length};
@@ -6,18 +6,29 @@ ghost use Rattle.slot.specs.Layout.{slotOf, slotSize};
 ghost use Rattle.rules.specs.Model.{controller};
 ghost use Rattle.rules.specs.Layout.{cellsIn, slotPlace};
 ghost use Rattle.rules.specs.AreaRight.{busyRight};
+ghost use Rattle.bothlogs.specs.BothLogs.{Indexed};
 ghost use Rattle.logcheck.specs.Frame.{Framed};
-ghost use Rattle.slotcheck.specs.SlotParts.{slotRightIn, slotsRight};
+ghost use Rattle.slotcheck.specs.SlotParts.{slotRightIn, slotsRight, slotUpdateKept};
 use logcheck::CELL;
+use logcheck::FLAG_AT;
 use logcheck::HEADER;
 use logcheck::PHASE_AT;
 use logcheck::SLOT;
+use logcheck::STAMP;
 
 mod numbers;
 pub mod stamps;
 
 // The number of slots.
 pub const SLOTS: usize = 8;
+
+// The flag is 1 only if no marked cell is also in the write log. A slot without the flag doesn't pay for the look at both logs.
+fn update_kept(t: &[u8]) -> bool
+    requires { ⌜ Indexed 8 0 (now t) ⌝ }
+    ensures { λ r. ⌜ r ≡ slotUpdateKept (now (t .entry)) ⌝ }
+{
+    t[FLAG_AT] != 1 || !bothlogs::marked_written(t, 0, STAMP)
+}
 
 // A slot that is not idle. The unused entries come before the marks: zero, they may be gathered with the others.
 fn busy_right(s: &[u8], n: usize, clock: u64, t: &[u8]) -> bool
@@ -36,7 +47,10 @@ fn busy_right(s: &[u8], n: usize, clock: u64, t: &[u8]) -> bool
     if !logcheck::marks::unused_zero(t) {
         return false;
     }
-    logcheck::marks::marked_right(t)
+    if !logcheck::marks::marked_right(t) {
+        return false;
+    }
+    update_kept(t)
 }
 
 // Phases 0 to 4; an idle slot all zero. `t` are the bytes from the slot on, in an area `s` of `n` cells.

@@ -11,12 +11,12 @@ use lib.ListN.{length-map}
 use borrow.Author.Tests.{eq-eqb, ne-eqb}
 use Rattle.value.specs.declared.CellValue.{CellValue}
 use Rattle.value.specs.Value.{valueOf}
-use Rattle.call.specs.declared.Reply.the-variants.{Done, Value, Verdict, NotAllowed, NoSuchCell, NotInLog, ReloadHeld, LastStamp}
+use Rattle.call.specs.declared.Reply.the-variants.{Done, Value, Verdict, NotAllowed, MarkedWritten, NoSuchCell, NotInLog, ReloadHeld, LastStamp}
 use Rattle.slot.specs.declared.ReadEntry.{ReadEntry}
 use Rattle.slot.specs.declared.SlotRecord.{SlotRecord}
 use Rattle.slot.specs.declared.ReadFound.{ReadFound}
 use Rattle.slot.specs.declared.ReadFound.the-variants as read
-use Rattle.slot.specs.Logs.{readEntry, readLog, writeLog, paddedReads, someMarked, busyRecord}
+use Rattle.slot.specs.Logs.{readEntry, readLog, writeLog, paddedReads, someMarked, markedWritten, busyRecord}
 use Rattle.slot.specs.Operations.{readFound, reloadedWith, ignoringSet}
 use Rattle.slot.proofs.Laws.Operations.{busy-reloaded, busy-ignoring}
 use Rattle.rules.specs.declared.Cell.{Cell}
@@ -142,12 +142,17 @@ module _ (M : Model) (S : State) (i : ℕ) where
               reloaded-stands (slotAt S i) v here p (reloaded S) anew made .viewed,
             )
 
-    -- ignore: something is marked, or nothing
-    module _ {marked : Bool} (some : marked ≡ someMarked (readLog v)) where
-      pub ignore-0 : {w : SlotRecord} → marked ≡ true → w ≡ ignoringSet v → ignore M S i ≡ accepted Done (turn S i (S .clock) (S .cells) (view w))
+    -- ignore: a marked cell is in the write log too; something is marked, or nothing
+    module _ {lost : Bool} (both : lost ≡ markedWritten (readLog v) (writeLog v)) where
+      pub ignore-15 : lost ≡ true → ignore M S i ≡ refused MarkedWritten
       unfolding ignore
-      ignore-0 so made = when-twilight (slotAt S i) v here p _ ∙ rw (← some, so, ignoring-stands (slotAt S i) v here p made .viewed)
+      ignore-15 so = when-twilight (slotAt S i) v here p _ ∙ rw (← both, so)
 
-      pub ignore-none : marked ≡ false → ignore M S i ≡ accepted Done S
-      unfolding ignore
-      ignore-none never = when-twilight (slotAt S i) v here p _ ∙ rw (← some, never)
+      module _ (kept : lost ≡ false) {marked : Bool} (some : marked ≡ someMarked (readLog v)) where
+        pub ignore-0 : {w : SlotRecord} → marked ≡ true → w ≡ ignoringSet v → ignore M S i ≡ accepted Done (turn S i (S .clock) (S .cells) (view w))
+        unfolding ignore
+        ignore-0 so made = when-twilight (slotAt S i) v here p _ ∙ rw (← both, kept, ← some, so, ignoring-stands (slotAt S i) v here p made .viewed)
+
+        pub ignore-none : marked ≡ false → ignore M S i ≡ accepted Done S
+        unfolding ignore
+        ignore-none never = when-twilight (slotAt S i) v here p _ ∙ rw (← both, kept, ← some, never)

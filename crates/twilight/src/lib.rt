@@ -65,13 +65,16 @@ pub fn reload(s: &mut [u8], i: u8) -> Reply
     Reply::Done
 }
 
-// Sets the ignoring flag if any entry is marked.
+// Sets the ignoring flag if any entry is marked. With a marked cell in the write log too, an update of another slot would be lost.
 pub fn ignore(s: &mut [u8], i: u8) -> Reply
     requires { ⌜ Good (now s) × (i < 8) ⌝ }
     ensures { λ r. ⌜ Did (rule.ignore controller (stateIn (now (s .entry))) i) (now (s .entry)) r (now (s .exit)) ⌝ }
 {
     if area::phase_at(s, i) != 3 {
         return Reply::NotAllowed;
+    }
+    if readlog::marked_written(s, i) {
+        return Reply::MarkedWritten;
     }
     if area::some_marked(s, i) {
         let v = area::fields_at(s, i);

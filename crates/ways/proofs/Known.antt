@@ -23,7 +23,7 @@ use Rattle.rules.proofs.LayView.{write-log}
 use Rattle.rules.proofs.StateSized.{LogsHold, slot-logs-hold}
 use Rattle.rules.proofs.AreaRead.{count-read}
 use Rattle.area.specs.Good.{Good, stateIn}
-use Rattle.area.proofs.Logged.{slot-holds}
+use Rattle.area.proofs.Logged.{Logged, slot-holds, logged-of}
 use Rattle.ways.proofs.Phase.{write-count, unused-writes}
 
 pub record Known (l : List ℕ) (v : SlotRecord) : Type 0 where
@@ -39,27 +39,19 @@ module _ (l : List ℕ) (clock : ℕ) (x : Slot) (logs : LogsHold (stateIn l .ce
   writes : writeLog v ≡ writesOf x
   writes = rw laid (write-log x)
 
-  below-count : (k : ℕ) → k < v .writecount → getD (v .writes) k noWrite .cell < countIn l
-  unfolding writesRight loggedRight
-  below-count k h =
-      let inside : k < length (writesOf x) = rw (← writes, write-count x v laid) h in
-      let there = and-left _ _ (all-at _ (writesOf x) noWrite (and-left _ _ (logs .writesHold)) k inside) in
-      rw (← getD-take (v .writecount) (v .writes) k noWrite h, writes, ← count-read controller l) (ltb-true _ _ there)
-
-  from-logs : Known l v
+  from-logs : Logged l v → Known l v
   unfolding writesRight
-  from-logs =
-      let few-writes = logs .writesFew in
+  from-logs logged =
       record {
         counted = write-count x v laid;
-        writesFew = omega (arith, ap length writes, write-count x v laid);
+        writesFew = logged .writesMost;
         unused = unused-writes x v laid;
         ascending = rw writes (and-right _ _ (logs .writesHold));
-        writesBelow = below-count;
+        writesBelow = logged .writesInside;
       }
 
 -- the record of slot i of a good area
 pub known : {l : List ℕ} {i : ℕ} {v : SlotRecord} → Good l → i < 8 → v ≡ lay (slotAt (stateIn l) i) → Known l v
 known {l} {i} {v} good below laid =
     from-logs l (stateIn l .clock) (slotAt (stateIn l) i)
-    (slot-logs-hold (stateIn l .cells) (stateIn l .clock) (slotAt (stateIn l) i) (slot-holds l good i below)) v laid
+    (slot-logs-hold (stateIn l .cells) (stateIn l .clock) (slotAt (stateIn l) i) (slot-holds l good i below)) v laid (logged-of l good i below v laid)

@@ -16,11 +16,10 @@ use Rattle.slot.specs.declared.WriteEntry.{WriteEntry}
 use Rattle.slot.specs.Layout.{writeOf}
 use Rattle.slot.specs.Logic.{_or_, any}
 use Rattle.slot.specs.Logs.{writesCell}
-use Rattle.slot.proofs.Logic.{true-or, or-true, false-or, or-false, both-ways}
+use Rattle.slot.proofs.Logic.{true-or, or-true, false-or, or-false, both-ways, any-snoc}
 use Rattle.slot.proofs.Entry.{first-byte}
 use Rattle.rules.specs.Layout.{countIn}
 use Rattle.logcheck.proofs.Chains.{either}
-use Rattle.logcheck.proofs.Tables.{any-snoc}
 use Rattle.wellformed.specs.Claims.{holderIn, inPart, claimRight, Claimed}
 use Rattle.wellformed.proofs.HolderLaws.{claim-at, claim-of}
 

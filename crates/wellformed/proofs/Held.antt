@@ -17,16 +17,15 @@ use Rattle.slot.proofs.Logic.{and-left, and-right}
 use Rattle.rules.specs.Model.{controller}
 use Rattle.rules.specs.Layout.{cellsIn, clockIn}
 use Rattle.rules.specs.LogsRight.{writesRight}
-use Rattle.rules.specs.AreaRight.{countsRight, unusedZero, takenRight, busyRight, slotPlaceRight, recordHolds}
+use Rattle.rules.specs.AreaRight.{takenRight, busyRight, slotPlaceRight, recordHolds}
 use Rattle.logcheck.specs.Frame.{Framed}
 use Rattle.logcheck.specs.Logged.{Counted, logsRightIn}
-use Rattle.logcheck.specs.Marked.{markedRight}
 use Rattle.logcheck.proofs.Chains.{pick-yes, pick-no}
 use Rattle.logcheck.proofs.Tables.{take-tab}
 use Rattle.logcheck.proofs.CellPlaces.{logged-below}
 use Rattle.logcheck.proofs.LogLaws.{wordIn, writes-at}
 use Rattle.slotcheck.specs.SlotParts.{numbersRight}
-use Rattle.slotcheck.proofs.SlotLaws.{counted, busy-order}
+use Rattle.slotcheck.proofs.SlotLaws.{counted, inCodeOrder, busy-order}
 use Rattle.wellformed.specs.Claims.{inPart, Part, SlotRight}
 
 -- a part of the write log that may be read, and has just the cells that the slot has to hold
@@ -50,13 +49,7 @@ module _ (n : ℕ) (a : List ℕ) (f : Framed n a) (l : List ℕ) (right : SlotR
     unfolding slotPlaceRight slotOf
     busy-right = pick-no _ _ _ _ (ne-eqb _ _ busy) refl ∙ and-right _ _ (right .right)
 
-    parts :
-        (countsRight (slotOf 8 l)
-        and logsRightIn a (slotOf 8 l)
-        and numbersRight (clockIn controller a) (slotOf 8 l)
-        and unusedZero 8 l (slotOf 8 l)
-        and markedRight l)
-        ≡ true
+    parts : inCodeOrder a (clockIn controller a) l ≡ true
     parts = busy-order a (clockIn controller a) l ∙ busy-right
 
     counts : Counted l

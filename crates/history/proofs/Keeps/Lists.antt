@@ -122,11 +122,6 @@ module _ {A : Type 0} where
   pairwise-drop R (suc n) [] p = p
   pairwise-drop R (suc n) (x ∷ l) p = pairwise-drop R n l (and-right _ _ p)
 
-  pub any-append : (f : A → Bool) (l m : List A) → any f (l ++ m) ≡ (any f l or any f m)
-  unfolding any _or_
-  any-append f [] m = refl
-  any-append f (x ∷ l) m = ap (λ (b : Bool). f x or b) (any-append f l m) ∙ sym (or-assoc (f x) (any f l) (any f m))
-
   pub any-none : (f : A → Bool) (l : List A) → all (λ x. not (f x)) l ≡ true → any f l ≡ false
   unfolding all any _or_
   any-none f [] p = refl

@@ -23,13 +23,12 @@ use Rattle.rules.specs.Cells.{withMark, reloaded}
 use Rattle.rules.specs.LogsRight.{cellRight, loggedRight, readsRight, writesRight, noUpdateLost}
 use Rattle.rules.specs.StateRight.{holds}
 use Rattle.rules.specs.Steps.{publishingOrIdle}
-use Rattle.slot.proofs.Logic.{and-intro, and-left, and-right}
+use Rattle.slot.proofs.Logic.{and-intro, and-left, and-right, any-append}
 use Rattle.slot.proofs.Search.{write-has}
 use Rattle.slot.proofs.Laws.Operations.{put-few}
 use Rattle.rules.proofs.StateSized.{LogsHold}
 use Rattle.history.proofs.Move.{Fitting, newRead, newWrite}
 use Rattle.history.proofs.Right.{Right}
-use Rattle.history.proofs.Keeps.Lists.{any-append}
 use Rattle.history.proofs.Keeps.Logs.{put-same, marked-same, reads-joined, reads-changed, writes-put}
 use Rattle.history.proofs.Keeps.Slots.{SlotHolds, owing-right, owing-holds}
 use Rattle.history.proofs.Keeps.Turn.{slot-now, keeps-stamp, new-stamp, owing-stamp, still}

@@ -2,7 +2,7 @@
 use mathlib.Core.Path.{refl, _∙_}
 use borrow.Author.Needs.{needs}
 use Rattle.logcheck.proofs.Chains.{pass, stop, passes, fails}
-use Rattle.slotcheck.proofs.SlotLaws.{counted, busy-order}
+use Rattle.slotcheck.proofs.SlotLaws.{counted, indexed, busy-order}
 use Rattle.slotcheck.proofs.busy_right.Statement.{statement}
 use Rattle.slotcheck.proofs.busy_right.Tie as tie
 
@@ -83,9 +83,40 @@ returns-5 c =
     let numbers-right = let c : tie.After-numbers-right = search in c .numbers-right in
     let if3 = let c : tie.Else3 = search in c .if3 .left in
     let unused-zero = let c : tie.After-unused-zero = search in c .unused-zero in
+    let if4 = let c : tie.Else4 = search in c .if4 .left in
     pass _ _ _ (passes (counts-right .ensures) if1)
     (pass _ _ _ (passes (logs-right .ensures) if2)
-    (pass _ _ _ (passes (numbers-right .ensures) if3) (pass _ _ _ (passes (unused-zero .ensures) (c .before .if4 .left)) (c .marked-right .ensures))))
+    (pass _ _ _ (passes (numbers-right .ensures) if3)
+    (pass _ _ _ (passes (unused-zero .ensures) if4) (stop _ _ _ (fails (c .before .marked-right .ensures) (c .if5 .taken)) refl))))
+    ∙ busy-order (args .s .now) (args .clock) (args .t .now)
+
+update-kept-requires : tie.Need-update-kept-requires
+update-kept-requires c κs =
+    let args = let c : tie.Start = search in c .args in
+    let pre = let c : tie.Start = search in c .pre in
+    let counts-right = let c : tie.After-counts-right = search in c .counts-right in
+    let if1 = let c : tie.Else1 = search in c .if1 .left in
+    let logs-right = let c : tie.After-logs-right = search in c .logs-right in
+    let if2 = let c : tie.Else2 = search in c .if2 .left in
+    indexed (args .s .now) (args .t .now) (args .n) (pre .0) (counted (args .t .now) (pre .1) (passes (counts-right .ensures) if1)) (passes (logs-right .ensures) if2)
+
+returns-6 : tie.Need-returns-6
+returns-6 c =
+    let args = let c : tie.Start = search in c .args in
+    let counts-right = let c : tie.After-counts-right = search in c .counts-right in
+    let if1 = let c : tie.Else1 = search in c .if1 .left in
+    let logs-right = let c : tie.After-logs-right = search in c .logs-right in
+    let if2 = let c : tie.Else2 = search in c .if2 .left in
+    let numbers-right = let c : tie.After-numbers-right = search in c .numbers-right in
+    let if3 = let c : tie.Else3 = search in c .if3 .left in
+    let unused-zero = let c : tie.After-unused-zero = search in c .unused-zero in
+    let if4 = let c : tie.Else4 = search in c .if4 .left in
+    let marked-right = let c : tie.After-marked-right = search in c .marked-right in
+    let if5 = let c : tie.Else5 = search in c .if5 .left in
+    pass _ _ _ (passes (counts-right .ensures) if1)
+    (pass _ _ _ (passes (logs-right .ensures) if2)
+    (pass _ _ _ (passes (numbers-right .ensures) if3)
+    (pass _ _ _ (passes (unused-zero .ensures) if4) (pass _ _ _ (passes (marked-right .ensures) if5) (c .update-kept .ensures)))))
     ∙ busy-order (args .s .now) (args .clock) (args .t .now)
 
 pub busy-right-spec : {M : Type 1} → statement M
@@ -101,4 +132,6 @@ busy-right-spec =
     unused-zero-requires
     returns-4
     marked-right-requires
-    returns-5)
+    returns-5
+    update-kept-requires
+    returns-6)

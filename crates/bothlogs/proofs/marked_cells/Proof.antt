@@ -1,0 +1,106 @@
+-- Before each turn the table has what the entries passed say of each cell.
+use mathlib.Core.Logic.{inl, inr}
+use mathlib.Core.Path.{_≡_}
+use Prim.Native.Nat.{_+_, _-_, _≤_, _<_}
+use native.Mathlib.Omega.{arith}
+use lib.ListN.{length}
+use Rattle.packed.specs.Places.{slotIn}
+use Rattle.packed.proofs.InLog.{reads-counted, reads-sized}
+use Rattle.bothlogs.proofs.Overlap.{Tabled, tabled-start, tabled-unmarked, tabled-marked, tabled-whole}
+use Rattle.bothlogs.proofs.marked_cells.Statement.{statement}
+use Rattle.bothlogs.proofs.marked_cells.Tie as tie
+
+abbrev Inv-loop : tie.InvT-loop
+Inv-loop s at width count marked₀ i₀ marked i = (i ≤ count) × Tabled marked (slotIn width at s .reads) i
+
+abbrev μ-loop : tie.MeasureT-loop
+μ-loop s at width count marked₀ i₀ marked i = count - i
+
+add-count : tie.Need-add-count Inv-loop μ-loop
+add-count c = let pre = let c : tie.Start Inv-loop μ-loop = search in c .pre in omega (arith, pre .size)
+
+shared-slice-read-count : tie.Need-shared-slice-read-count Inv-loop μ-loop
+shared-slice-read-count c = let pre = let c : tie.Start Inv-loop μ-loop = search in c .pre in omega (arith, pre .size)
+
+cast-count : tie.Need-cast-count Inv-loop μ-loop
+cast-count c =
+    let at = let c : tie.Start Inv-loop μ-loop = search in c .args .at in
+    let byte = c .shared-slice-known2 .given in
+    omega (arith, byte (at + 3))
+
+loop-holds : tie.Need-loop-holds Inv-loop μ-loop
+loop-holds c = let args = let c : tie.Start Inv-loop μ-loop = search in c .args in (omega arith, tabled-start (slotIn (args .width) (args .at) (args .s .now) .reads))
+
+-- a turn begins at an entry of the array
+inside : (c : tie.In-loop Inv-loop μ-loop)
+    → let args = let c : tie.Start Inv-loop μ-loop = search in c .args in
+    c .before .loop .i < length (slotIn (args .width) (args .at) (args .s .now) .reads)
+inside c =
+    let start = let c : tie.Start Inv-loop μ-loop = search in c in
+    omega (arith, c .loop-test .taken, start .pre .reads, reads-counted (start .args .width) (start .args .at) (start .args .s .now), reads-sized (start .args .width) (start .args .at) (start .args .s .now))
+
+read-at-requires : tie.Need-read-at-requires Inv-loop μ-loop
+read-at-requires c κs =
+    let pre = let c : tie.Start Inv-loop μ-loop = search in c .pre in
+    let args = let c : tie.Start Inv-loop μ-loop = search in c .args in
+    (pre .narrow, pre .size, rw (← reads-sized (args .width) (args .at) (args .s .now)) (inside c))
+
+-- the entry that was read has a cell below 64
+cell-below : (c : tie.After-read-at Inv-loop μ-loop) → c .read-at .result .cell < 64
+cell-below c =
+    let here = c .read-at .ensures in
+    let more = let c : tie.In-loop Inv-loop μ-loop = search in c .loop-test .taken in
+    let start = let c : tie.Start Inv-loop μ-loop = search in c in
+    rw here (start .pre .readsBelow _ (rw (← reads-counted (start .args .width) (start .args .at) (start .args .s .now)) more))
+
+cast-marked : tie.Need-cast-marked Inv-loop μ-loop
+cast-marked c = omega arith
+
+array-write-marked : tie.Need-array-write-marked Inv-loop μ-loop
+array-write-marked c = let c : tie.After-read-at Inv-loop μ-loop = search in cell-below c
+
+add-i : tie.Need-add-i Inv-loop μ-loop
+add-i c =
+    let start = let c : tie.Start Inv-loop μ-loop = search in c in
+    omega (arith, start .pre .reads, reads-counted (start .args .width) (start .args .at) (start .args .s .now))
+
+loop-less : tie.Need-loop-less Inv-loop μ-loop
+loop-less c = omega arith
+
+loop-again : tie.Need-loop-again Inv-loop μ-loop
+loop-again c =
+    let here = let c : tie.After-read-at Inv-loop μ-loop = search in c .read-at .ensures in
+    let loop = let c : tie.At-loop Inv-loop μ-loop = search in c .loop in
+    let room = let c : tie.In-loop Inv-loop μ-loop = search in inside c in
+    (
+      omega arith,
+      elim (c .if1 .came) [
+        | inl on ↦ rw (on .2) (tabled-marked _ _ room (loop .inv .1) here (on .0 .taken))
+        | inr off ↦ rw (off .1) (tabled-unmarked _ _ room (loop .inv .1) here (off .0 .left))
+      ],
+    )
+
+returns : tie.Need-returns Inv-loop μ-loop
+returns c =
+    let loop = let c : tie.At-loop Inv-loop μ-loop = search in c .loop in
+    let args = let c : tie.Start Inv-loop μ-loop = search in c .args in
+    let all : loop .i ≡ slotIn (args .width) (args .at) (args .s .now) .readcount = omega (arith, reads-counted (args .width) (args .at) (args .s .now)) in
+    rw (← all) (tabled-whole (loop .inv .1))
+
+pub marked-cells-spec : {M : Type 1} → statement M
+marked-cells-spec =
+    tie.close
+    (tie.spec
+    Inv-loop
+    μ-loop
+    add-count
+    shared-slice-read-count
+    cast-count
+    loop-holds
+    read-at-requires
+    cast-marked
+    array-write-marked
+    add-i
+    loop-less
+    loop-again
+    returns)
