@@ -1,6 +1,7 @@
 -- A commit that levels raises the picked group's count by exactly one, and a replay that only such commits write never falls. From demand 3 alone.
 use mathlib.Core.Bool.{Bool, true, false, not, false≢true}
 use mathlib.Core.List.{List, [], _∷_}
+use mathlib.Core.Logic.{inl, inr}
 use mathlib.Core.Option.{some}
 use mathlib.Core.Path.{_≡_, refl, sym, _∙_, ap, subst, subst₂}
 use Prim.Native.Nat.{ℕ, zero, suc, pred, _<_, _≤_}
@@ -11,6 +12,7 @@ use lib.Signed.{_≤ℤ_, ≤ℤ-refl}
 use borrow.Author.Tests.{eqb-true, eq-eqb, ne-eqb, not-true}
 use Rattle.slot.specs.declared.ReadEntry.{ReadEntry}
 use Rattle.slot.specs.declared.WriteEntry.{WriteEntry}
+use Rattle.slot.specs.Layout.{noRead}
 use Rattle.slot.specs.Logic.{any, first, pairwise, All}
 use Rattle.slot.specs.Logs.{writeEntry, writesCell}
 use Rattle.slot.proofs.Logic.{and-left, and-right, or-false}
@@ -24,8 +26,8 @@ use Rattle.history.proofs.Histories.{histories}
 use Rattle.pick.specs.Groups.{erasesPlace, erases, lastCount}
 use Rattle.pick.proofs.PicksRight.{picks-right}
 use Rattle.wearset.specs.WearSet.{groupCount}
-use Rattle.levelling.specs.CountsUp.{wordsRead, LevelsWith, signed, RaisesOne, RightPick, OnlyLevelled, CountsUp, CountsAre, CountsUpFromRest, CountsAreFromRest}
-use Rattle.levelling.proofs.RightPick.{set-word, right-pick}
+use Rattle.levelling.specs.CountsUp.{wordsRead, LevelsWith, signed, RaisesOne, RightPick, SetNotIgnored, OnlyLevelled, CountsUp, CountsAre, CountsUpFromRest, CountsAreFromRest}
+use Rattle.levelling.proofs.RightPick.{set-has, set-cell, set-word, right-pick}
 use Rattle.levelling.proofs.NoneLost.{stays-at, none-lost, all-counted}
 use Rattle.levelling.proofs.SignedWords.{signed-next, signed-rises, ≤ℤ-trans}
 
@@ -50,10 +52,14 @@ written-by P (x ∷ L) a k c w =
     cond-elim (λ (l : List WriteEntry). writesCell l c ≡ true → (y : Commit) × P y × (y .stamp ≡ k) × (writesCell (y .writes) c ≡ true))
     (eqb (x .stamp) k) (x .writes) (logAt L k) (λ e v. (x, a .0, eqb-true _ _ e, v)) (λ e v. written-by P L (a .1) k c v) w
 
--- a log with one entry: its cell is found, and it writes no other
+-- a log with one entry: its cell is found and written, and it writes no other
 one-found : (e : WriteEntry) → writeEntry (e ∷ []) (e .cell) ≡ some e
 unfolding writeEntry first
 one-found e = rw (eq-eqb (e .cell) (e .cell) refl)
+
+one-written : (e : WriteEntry) → writesCell (e ∷ []) (e .cell) ≡ true
+unfolding writesCell any
+one-written e = or-false _ ∙ eq-eqb (e .cell) (e .cell) refl
 
 one-cell : (e : WriteEntry) (c : ℕ) → writesCell (e ∷ []) c ≡ true → e .cell ≡ c
 unfolding writesCell any
@@ -64,17 +70,20 @@ unfolding writesCell any
 one-other e c other = or-false _ ∙ ne-eqb _ _ (λ same. other (sym same))
 
 module _ (S : State) (events : List Event) where
-  -- a commit with its own log at its stamp, whose reads are what the replay holds just before it
+  -- a commit with its own log at its stamp, whose entries of cells that it writes are what the replay holds just before it
   raises : (x : Commit) → 0 < x .stamp → logAt (commits events) (x .stamp) ≡ x .writes
-      → All (λ (e : ReadEntry). e .word ≡ replay S events (pred (x .stamp)) (e .cell)) (x .reads)
+      → All (λ (e : ReadEntry). writesCell (x .writes) (e .cell) ≡ true → e .word ≡ replay S events (pred (x .stamp)) (e .cell)) (x .reads)
       → (set : List ℕ) (g : ℕ) → LevelsWith set g (x .reads) (x .writes) → RaisesOne S events (x .stamp) (getD set (erasesPlace g) 0)
   raises x positive log had set g levels =
       let c : ℕ = getD set (erasesPlace g) 0 in
       let least = picks-right .pick (wordsRead (x .reads)) (groupCount set) g (levels .pick) in
       let inside : erasesPlace g < length set = omega (arith, least .inside) in
-      let word : erases (wordsRead (x .reads)) g ≡ replay S events (pred (x .stamp)) c =
-      set-word (replay S events (pred (x .stamp))) (x .reads) had set (levels .cells) (erasesPlace g) inside in
       let entry : WriteEntry = record { cell = c; word = suc (erases (wordsRead (x .reads)) g) } in
+      let cell = set-cell (x .reads) set (levels .cells) (erasesPlace g) inside in
+      let written : writesCell (x .writes) (getD (x .reads) (erasesPlace g) noRead .cell) ≡ true = rw (cell, levels .write) (one-written entry) in
+      let word : erases (wordsRead (x .reads)) g ≡ replay S events (pred (x .stamp)) c =
+      set-word (x .reads) set (levels .cells) (erasesPlace g) inside (replay S events (pred (x .stamp)))
+      (set-has (x .reads) set (levels .cells) (erasesPlace g) inside _ had written) in
       let raised : replay S events (x .stamp) c ≡ suc (replay S events (pred (x .stamp)) c) =
       writer-leaves (logAt (commits events)) _ (x .stamp) c entry positive
       (ap (λ (l : List WriteEntry). writeEntry l c) (log ∙ levels .write) ∙ one-found entry)
@@ -93,21 +102,27 @@ module _ (S : State) (events : List Event) where
       }
 
 module _ {S : State} {events : List Event} {T : State} (holds : Demand3 S events T) where
-  -- each commit that levels and ignored no mark raises one count
-  each-raises : All (λ (x : Commit). (set : List ℕ) (g : ℕ) → LevelsWith set g (x .reads) (x .writes) → x .ignoring ≡ false
+  -- each commit that levels raises one count
+  each-raises : All (λ (x : Commit). (set : List ℕ) (g : ℕ) → LevelsWith set g (x .reads) (x .writes)
       → RaisesOne S events (x .stamp) (getD set (erasesPlace g) 0)) (commits events)
   each-raises =
       All-map _ _
-      (λ x known set g levels off.
+      (λ x known set g levels.
       let above = known .1 .0 .0 in
-      raises S events x (omega arith) (known .0) (known .1 .1 off) set g levels)
+      raises S events x (omega arith) (known .0) (known .1 .1) set g levels)
       (commits events)
-      (All-both _ _ (commits events) (own-logs (commits events) (holds .stampsApart)) (All-both _ _ (commits events) (holds .stampsWithin) (holds .commitsHad)))
+      (All-both _ _ (commits events) (own-logs (commits events) (holds .stampsApart)) (All-both _ _ (commits events) (holds .stampsWithin) (holds .updatesHad)))
 
-  -- .. that of the group which is least worn just before its stamp
-  each-right : All (λ (x : Commit). (set : List ℕ) (g : ℕ) → LevelsWith set g (x .reads) (x .writes) → x .ignoring ≡ false
+  -- .. that of the group which is least worn just before its stamp, if no mark on the set was ignored
+  each-right : All (λ (x : Commit). (set : List ℕ) (g : ℕ) → LevelsWith set g (x .reads) (x .writes) → SetNotIgnored set x
       → RightPick S events (x .stamp) set g) (commits events)
-  each-right = All-map _ _ (λ x had set g levels off. right-pick S events x (had off) set g levels) (commits events) (holds .commitsHad)
+  each-right =
+      All-map _ _
+      (λ x had set g levels kept.
+      right-pick S events x set g levels λ k inside.
+      let has = set-has (x .reads) set (levels .cells) k inside in
+      elim kept [ inl off ↦ has _ (had .0 off) | inr unmarked ↦ has _ (had .1) (unmarked k inside) ])
+      (commits events) (All-both _ _ (commits events) (holds .commitsHad) (holds .entriesHad))
 
   module _ (c : ℕ) (only : OnlyLevelled events c) where
     -- a stamp that writes the cell raises it by one
@@ -115,8 +130,8 @@ module _ {S : State} {events : List Event} {T : State} (holds : Demand3 S events
     raised-at k w =
         let found = written-by _ (commits events) (All-both _ _ (commits events) only each-raises) k c w in
         let levels = found .1 .0 (found .3) in
-        let cell = one-cell _ c (ap (λ (l : List WriteEntry). writesCell l c) (sym (levels .0 .2 .write)) ∙ found .3) in
-        subst₂ (RaisesOne S events) (found .2) cell (found .1 .1 (levels .0 .0) (levels .0 .1) (levels .0 .2) (levels .1))
+        let cell = one-cell _ c (ap (λ (l : List WriteEntry). writesCell l c) (sym (levels .2 .write)) ∙ found .3) in
+        subst₂ (RaisesOne S events) (found .2) cell (found .1 .1 (levels .0) (levels .1) (levels .2))
 
     -- from a stamp to the next
     next-rises : (k : ℕ) → signed (replay S events k c) ≤ℤ signed (replay S events (suc k) c)

@@ -90,7 +90,7 @@ pub record MixAtC : Type 0 where
       → Demand3 (stateOf controller l) (happened l made) (stateOf controller (lastLeft l made))
   pub demand3FromLayOut : (l ds a : List ℕ) (made : List Made) → LaidOut l ds 0 a → inTurn a made
       → Demand3 (stateOf controller a) (happened a made) (stateOf controller (lastLeft a made))
-  -- Each commit that levels and ignored no mark raises the least worn group's count by exactly one ..
+  -- Each commit that levels raises its group's count by exactly one, and that group is the least worn one if no mark on the set was ignored ..
   pub countsUp : (l : List ℕ) (made : List Made) → Bytes l → atRest controller l ≡ true → inTurn l made → CountsUp (stateOf controller l) (happened l made)
   pub countsUpFromLayOut : (l ds a : List ℕ) (made : List Made) → LaidOut l ds 0 a → inTurn a made → CountsUp (stateOf controller a) (happened a made)
   -- .. a count that only such commits write is what it began with and one more for each of them ..

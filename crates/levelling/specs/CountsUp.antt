@@ -1,6 +1,7 @@
 -- Why a count can't fall. In document 01's words a commit has a stamp, a read log and a write log; the replay is what the cells hold once all commits up to a stamp are in.
 use mathlib.Core.Bool.{true, false, cond}
 use mathlib.Core.List.{List, [], _∷_, _++_, map}
+use mathlib.Core.Logic.{_⊎_}
 use mathlib.Core.Option.{none, some}
 use mathlib.Core.Path.{_≡_}
 use Prim.Native.Nat.{ℕ, zero, suc, pred, _+_, _<_, _≤_}
@@ -12,11 +13,13 @@ use mir.Val.{toZ}
 use Rattle.wire.specs.Field.{Bytes}
 use Rattle.slot.specs.declared.ReadEntry.{ReadEntry}
 use Rattle.slot.specs.declared.WriteEntry.{WriteEntry}
+use Rattle.slot.specs.Layout.{noRead}
 use Rattle.slot.specs.Logic.{All}
 use Rattle.slot.specs.Logs.{writesCell}
 use Rattle.rules.specs.Model.{Model}
 use Rattle.rules.specs.State.{State, cellCount, cellAt}
 use Rattle.rules.specs.StateRight.{stateAtRest}
+use Rattle.rules.specs.Outcome.{Outcome}
 use Rattle.rules.specs.Step.{Call, step}
 use Rattle.rules.specs.Layout.{stateOf}
 use Rattle.rules.specs.Area.{atRest}
@@ -70,9 +73,13 @@ pub record RightPick (S : State) (events : List Event) (stamp : ℕ) (set : List
   pub pick : picked (wordsBefore S events stamp set) (groupCount set) ≡ some g
   pub least : LeastWorn (wordsBefore S events stamp set) (groupCount set) g
 
--- every commit that writes cell c levels, and ignored no mark
+-- a commit ignored no mark, or none on a cell of the set, whose entries come first in its read log
+abbrev pub SetNotIgnored : List ℕ → Commit → Type 0
+SetNotIgnored set x = (x .ignoring ≡ false) ⊎ ((place : ℕ) → place < length set → getD (x .reads) place noRead .mark ≡ false)
+
+-- every commit that writes cell c levels
 abbrev pub OnlyLevelled : List Event → ℕ → Type 0
-OnlyLevelled events c = All (λ (x : Commit). writesCell (x .writes) c ≡ true → Levels x × (x .ignoring ≡ false)) (commits events)
+OnlyLevelled events c = All (λ (x : Commit). writesCell (x .writes) c ≡ true → Levels x) (commits events)
 
 -- a write log counts as one write of a cell that it has, and as none of any other
 abbrev pub counted : List WriteEntry → ℕ → ℕ
@@ -90,35 +97,39 @@ writers (x ∷ L) c = counted (x .writes) c + writers L c
 
 -- of a history from state S
 pub record CountsUp (S : State) (events : List Event) : Type 0 where
-  -- A commit that levels and ignored no mark raises the picked group's count by exactly one over what the replay holds just before its stamp, and changes no
-  -- other cell.
+  -- A commit that levels raises the picked group's count by exactly one over what the replay holds just before its stamp, and changes no other cell. Marks are no part of
+  -- this: the count's cell is in both its logs, and for such cells demand 3 asks nothing of marks.
   pub countsUp :
-      All (λ (x : Commit). (set : List ℕ) (g : ℕ) → LevelsWith set g (x .reads) (x .writes) → x .ignoring ≡ false
+      All (λ (x : Commit). (set : List ℕ) (g : ℕ) → LevelsWith set g (x .reads) (x .writes)
       → RaisesOne S events (x .stamp) (getD set (erasesPlace g) 0)) (commits events)
   -- The group that it raises is the least worn one at its commit, and not only when its cells were read: whatever other tasks committed in between, the counts
-  -- that it was picked by are those that stand just before its stamp.
+  -- that it was picked by are those that stand just before its stamp. Here marks count, for the pick goes by all cells of the set, and only the written one is safe from ignoring.
   pub leastWorn :
-      All (λ (x : Commit). (set : List ℕ) (g : ℕ) → LevelsWith set g (x .reads) (x .writes) → x .ignoring ≡ false
+      All (λ (x : Commit). (set : List ℕ) (g : ℕ) → LevelsWith set g (x .reads) (x .writes) → SetNotIgnored set x
       → RightPick S events (x .stamp) set g) (commits events)
-  -- If every commit that writes a cell levels and ignored no mark, then the replay of that cell is at every stamp what the cell began with, and one more for each
-  -- commit up to there that wrote it: no erase is lost, and none is counted twice.
+  -- If every commit that writes a cell levels, then the replay of that cell is at every stamp what the cell began with, and one more for each commit up to there that
+  -- wrote it: no erase is lost, and none is counted twice.
   pub noneLost : (c : ℕ) → OnlyLevelled events c → (b : ℕ) → replay S events b c ≡ cellAt S c .word + timesWritten (commits events) b c
-  -- If every commit that writes a cell levels and ignored no mark, then the replay of that cell never falls from one stamp to a later one.
+  -- If every commit that writes a cell levels, then the replay of that cell never falls from one stamp to a later one.
   pub replayNeverFalls : (c : ℕ) → OnlyLevelled events c → (a b : ℕ) → a ≤ b → signed (replay S events a c) ≤ℤ signed (replay S events b c)
 
--- .. and the cell itself, after any call, is at least what it was after any earlier call, whatever the tasks interleave
+-- .. and the cell itself, after any call, is at least what it was after any earlier call, whatever the tasks interleave; `next` takes the steps
+abbrev pub NeverFallsBy : Model → (State → Call → Outcome) → Type 0
+NeverFallsBy M next =
+    (S : State) → stateAtRest M S ≡ true → (earlier later : List Call) (c : ℕ)
+    → OnlyLevelled (history next S (earlier ++ later)) c
+    → signed (cellAt (final next S earlier) c .word) ≤ℤ signed (cellAt (final next S (earlier ++ later)) c .word)
+
 pub record NeverFalls (M : Model) : Type 0 where
-  pub ofStates : (S : State) → stateAtRest M S ≡ true → (earlier later : List Call) (c : ℕ)
-      → OnlyLevelled (history (step M) S (earlier ++ later)) c
-      → signed (cellAt (final (step M) S earlier) c .word) ≤ℤ signed (cellAt (final (step M) S (earlier ++ later)) c .word)
+  pub ofStates : NeverFallsBy M (step M)
   pub ofAreas : (a : List ℕ) → Bytes a → atRest M a ≡ true → (earlier later : List Call) (c : ℕ)
       → OnlyLevelled (areaHistory M a (earlier ++ later)) c
       → signed (cellAt (stateOf M (bytesAfter M a earlier)) c .word) ≤ℤ signed (cellAt (stateOf M (bytesAfter M a (earlier ++ later))) c .word)
 
 -- of a history from state S to state T: what stands in the cells at its end
 pub record CountsAre (S : State) (events : List Event) (T : State) : Type 0 where
-  -- If every commit that writes a cell levels and ignored no mark, and no slot is just publishing to it, then the cell has the count that it began with and one
-  -- more for each commit that wrote it.
+  -- If every commit that writes a cell levels, and no slot is just publishing to it, then the cell has the count that it began with and one more for each commit that
+  -- wrote it.
   pub cellCounts : (c : ℕ) → c < cellCount T → publishes T (cellAt T c .holder) ≡ false → OnlyLevelled events c
       → cellAt T c .word ≡ cellAt S c .word + timesWritten (commits events) (T .clock) c
   -- Each commit of the history is among those counted, and once: the stamps up to the clock have them all, and no two of them have the same.
