@@ -1,7 +1,7 @@
 -- The table of marked cells, entry by entry, and that it does not matter which log is gone through first.
 use mathlib.Core.Bool.{Bool, true, false}
 use mathlib.Core.List.{List, [], _∷_, _++_}
-use mathlib.Core.Path.{_≡_, refl, sym, _∙_, ap, ap₂}
+use mathlib.Core.Path.{_≡_, refl, sym, _∙_, ap}
 use Prim.Native.Nat.{ℕ, _+_, _<_}
 use native.Mathlib.Numerals.{add-one}
 use native.Mathlib.Omega.{arith}
@@ -9,14 +9,13 @@ use borrow.Author.Tests.{eqb-true, eqb-false}
 use lib.Dec.{eqb}
 use lib.ListN.{length, getD, take, set, replicate, length-set, getD-replicate}
 use lib.Seq.{take-suc, getD-set-same, getD-set-other}
-use Rattle.wire.specs.Table.{tab}
 use Rattle.wire.proofs.Laws.Table.{getD-tab, tab-ext, tab-of}
 use Rattle.slot.specs.declared.ReadEntry.{ReadEntry}
 use Rattle.slot.specs.declared.WriteEntry.{WriteEntry}
 use Rattle.slot.specs.Layout.{noRead, bit}
 use Rattle.slot.specs.Logic.{_and_, _or_, any}
 use Rattle.slot.specs.Logs.{writesCell, markedWritten}
-use Rattle.slot.proofs.Logic.{and-true, and-false, or-false, or-true, any-snoc}
+use Rattle.slot.proofs.Logic.{and-false, or-false, or-true, any-snoc}
 use Rattle.bothlogs.specs.BothLogs.{marksCell, markedTable}
 
 -- ---- the table

@@ -2,26 +2,21 @@
 -- "well formed" for the slot, in whatever phase it is, since the logs of an idle slot are empty.
 use mathlib.Core.Bool.{true}
 use mathlib.Core.List.{List}
-use mathlib.Core.Path.{_≡_, ap}
+use mathlib.Core.Path.{_≡_}
 use Prim.Native.Nat.{ℕ, _<_, _≤_}
-use native.Mathlib.Omega.{arith}
 use lib.Dec.{ltb}
 use lib.ListN.{length, getD}
-use lib.Seq.{getD-take}
-use borrow.Author.Tests.{ltb-true}
 use Rattle.slot.specs.declared.WriteEntry.{WriteEntry}
 use Rattle.slot.specs.declared.SlotRecord.{SlotRecord}
 use Rattle.slot.specs.Layout.{writeCapacity, noWrite}
 use Rattle.slot.specs.Logic.{pairwise}
 use Rattle.slot.specs.Logs.{writeLog, paddedWrites}
-use Rattle.slot.proofs.Logic.{and-left, and-right, all-at}
+use Rattle.slot.proofs.Logic.{and-right}
 use Rattle.rules.specs.State.{Slot, slotAt, readsOf, writesOf, startOf}
-use Rattle.rules.specs.LogsRight.{loggedRight, writesRight}
+use Rattle.rules.specs.LogsRight.{writesRight}
 use Rattle.rules.specs.Layout.{lay, countIn}
-use Rattle.rules.specs.Model.{controller}
 use Rattle.rules.proofs.LayView.{write-log}
 use Rattle.rules.proofs.StateSized.{LogsHold, slot-logs-hold}
-use Rattle.rules.proofs.AreaRead.{count-read}
 use Rattle.area.specs.Good.{Good, stateIn}
 use Rattle.area.proofs.Logged.{Logged, slot-holds, logged-of}
 use Rattle.ways.proofs.Phase.{write-count, unused-writes}

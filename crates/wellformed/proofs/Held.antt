@@ -11,7 +11,6 @@ use lib.ListN.{getD, take, drop}
 use Rattle.wire.specs.Table.{tab}
 use Rattle.slot.specs.declared.WriteEntry.{WriteEntry}
 use Rattle.slot.specs.Layout.{writeOf, slotOf}
-use Rattle.slot.specs.Logic.{_and_}
 use Rattle.slot.specs.Logs.{writesCell, writeLog}
 use Rattle.slot.proofs.Logic.{and-left, and-right}
 use Rattle.rules.specs.Model.{controller}

@@ -71,8 +71,7 @@ loop-again : tie.Need-loop-again Inv-loop μ-loop
 loop-again c =
     let here = let c : tie.After-read-at Inv-loop μ-loop = search in c .read-at .ensures in
     let loop = let c : tie.At-loop Inv-loop μ-loop = search in c .loop in
-    let room = let c : tie.In-loop Inv-loop μ-loop = search in inside c in
-    (
+    let room = let c : tie.In-loop Inv-loop μ-loop = search in inside c in (
       omega arith,
       elim (c .if1 .came) [
         | inl on ↦ rw (on .2) (tabled-marked _ _ room (loop .inv .1) here (on .0 .taken))

@@ -67,8 +67,7 @@ module _ (cells : List Cell) (clock : ℕ) where
       let q = and-right _ _ p in
       let r = and-right _ _ q in
       let k = and-left _ _ r in
-      let flags = and-right _ _ r in
-      (
+      let flags = and-right _ _ r in (
         logs-hold cells clock start reads writes (and-left _ _ p),
         ltb-true _ _ (and-left _ _ q),
         ltb-true _ _ (and-left _ _ k),
