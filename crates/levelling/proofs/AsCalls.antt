@@ -10,7 +10,6 @@ use lib.ListN.{length, getD, take}
 use lib.Seq.{take-suc, take-length}
 use Rattle.wire.specs.Field.{Bytes}
 use Rattle.call.specs.Answer.{replyCode}
-use Rattle.slot.specs.Logic.{_and_}
 use Rattle.rules.specs.Model.{Model, FitsBytes}
 use Rattle.rules.specs.State.{State}
 use Rattle.rules.specs.Outcome.{replyOf, after}
