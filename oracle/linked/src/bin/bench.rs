@@ -6,6 +6,7 @@
 //! output. Each is 2,486 bytes of area and 8 of the step.
 //! `bench calls`: the yardstick makes the steps of `bench cases`, and the number
 //! and the code of each are printed, for callgrind to count what it takes.
+//! `bench rows`: the row that each of them belongs to.
 //! `bench wear`: the cases in which the wear task has most to do, on standard
 //! output. Each is 2,486 bytes of area, the slot, the length of the set, and 16
 //! bytes for the set.
@@ -19,8 +20,9 @@ use std::process::ExitCode;
 use std::time::{Duration, Instant};
 
 use linked::busy::BusySheet;
-use linked::cases::{self, Case, WearCase, SUBJECT};
+use linked::cases::{self, Case, WearCase};
 use linked::library;
+use linked::stage::SUBJECT;
 use oracle::machine::Transaction;
 use oracle::{step_in_place, step_on_bytes, wear_in_place, wear_on_bytes, Call};
 
@@ -37,9 +39,10 @@ fn main() -> ExitCode {
         Some("cases") => worst_cases().and_then(|cases| write(&cases)),
         Some("sheet") => sheet_cases().and_then(|cases| write(&cases)),
         Some("calls") => worst_cases().map(make_in_place),
+        Some("rows") => worst_cases().map(print_rows),
         Some("wear") => wear_cases().and_then(|cases| write_wear(&cases)),
         Some("wear-calls") => wear_cases().map(wear_all_in_place),
-        Some(_) => Err("usage: bench [cases|sheet|calls|wear|wear-calls]".to_string()),
+        Some(_) => Err("usage: bench [cases|sheet|calls|rows|wear|wear-calls]".to_string()),
     };
     match result {
         Ok(()) => ExitCode::SUCCESS,
@@ -127,7 +130,7 @@ fn time(make_step: MakeStep, area: &[u8], calls: &[Call]) -> Duration {
 
 fn worst_cases() -> Result<Vec<Case>, String> {
     let cases = cases::all().ok_or("no cases")?;
-    for Case { area, call, code } in &cases {
+    for Case { area, call, code, .. } in &cases {
         let given = oracle(&mut area.clone(), *call) >> 40;
         if given != u64::from(*code) {
             return Err(format!("{call:?} was to get code {code} and gets {given}"));
@@ -142,13 +145,17 @@ fn make_in_place(cases: Vec<Case>) {
     }
 }
 
+fn print_rows(cases: Vec<Case>) {
+    cases.iter().for_each(|case| println!("{}", case.row));
+}
+
 fn sheet_cases() -> Result<Vec<Case>, String> {
     let BusySheet { mut area, calls, .. } = BusySheet::of(1).ok_or("no sheet")?;
     let mut cases = Vec::new();
     for call in calls {
         let before = area.clone();
         let code = (oracle(&mut area, call) >> 40) as u8;
-        cases.push(Case { area: before, call, code });
+        cases.push(Case { row: "a step of a busy sheet", area: before, call, code });
     }
     Ok(cases)
 }
