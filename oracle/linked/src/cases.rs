@@ -34,6 +34,9 @@ pub struct WearCase {
     pub number: u64,
 }
 
+/// The row of the area that takes most of a check.
+pub const ALL_FLAGGED: &str = "no such step, 8 slots with the flag";
+
 /// For each step a case or two in which it is done, and one in which it is
 /// refused as late as it can be; for each cause why a cell can't be read, one.
 pub fn all() -> Option<Vec<Case>> {
@@ -199,7 +202,7 @@ fn with_flags(subject: &Stage) -> Option<Vec<Case>> {
     let flags = all.0.transactions().filter(|(_, own)| is_full_and_flagged(own)).count();
     (flags == SLOTS).then(|| {
         vec![
-            all.no_such_step("no such step, 8 slots with the flag"),
+            all.no_such_step(ALL_FLAGGED),
             subject.locked().case(Enter, 0, 0).in_row("enter, 7 others with the flag"),
             subject.entered().case(Reload, 0, 0).in_row("reload, 7 others with the flag"),
         ]

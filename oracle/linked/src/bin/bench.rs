@@ -1,6 +1,8 @@
 //! The time of a step of the proved library, and areas for other measurements.
 //!
 //! `bench`: the time over busy sheets, beside that of the yardstick in Rust.
+//! `bench check`: the last part of it, the time of the check of an area alone. No
+//! replies are compared, so that a library of another version can be measured.
 //! `bench cases`: the cases in which each step has most to do, and
 //! `bench sheet`: each step of a busy sheet with the area before it, on standard
 //! output. Each is 2,486 bytes of area and 8 of the step.
@@ -36,13 +38,14 @@ fn main() -> ExitCode {
     let mode = env::args().nth(1);
     let result = match mode.as_deref() {
         None => measure(),
+        Some("check") => check_alone(),
         Some("cases") => worst_cases().and_then(|cases| write(&cases)),
         Some("sheet") => sheet_cases().and_then(|cases| write(&cases)),
         Some("calls") => worst_cases().map(make_in_place),
         Some("rows") => worst_cases().map(print_rows),
         Some("wear") => wear_cases().and_then(|cases| write_wear(&cases)),
         Some("wear-calls") => wear_cases().map(wear_all_in_place),
-        Some(_) => Err("usage: bench [cases|sheet|calls|rows|wear|wear-calls]".to_string()),
+        Some(_) => Err("usage: bench [check|cases|sheet|calls|rows|wear|wear-calls]".to_string()),
     };
     match result {
         Ok(()) => ExitCode::SUCCESS,
@@ -82,13 +85,21 @@ fn measure() -> Result<(), String> {
     check_alone()
 }
 
-/// A step number that there is not: what is left is the check of the area.
+/// A step number that there is not: what is left is the check of the area. The
+/// second area has the flag set in every slot.
 fn check_alone() -> Result<(), String> {
     let sheet = BusySheet::of(1).ok_or("no sheet")?;
     let calls = vec![Call::default(); sheet.calls.len()];
-    let (library, rust) = compare(&sheet.area, &calls);
-    let ratio = library / rust;
-    println!("the check of the area alone: library {library:.0}, Rust {rust:.0}, ratio {ratio:.2}");
+    let cases = cases::all().ok_or("no cases")?;
+    let flagged = cases.into_iter().find(|case| case.row == cases::ALL_FLAGGED);
+    let flagged = flagged.ok_or("no area with flags")?.area;
+    for (name, area) in [("the area", sheet.area), ("an area of flags", flagged)] {
+        let (library, rust) = compare(&area, &calls);
+        let ratio = library / rust;
+        println!(
+            "the check of {name} alone: library {library:.0}, Rust {rust:.0}, ratio {ratio:.2}"
+        );
+    }
     Ok(())
 }
 
