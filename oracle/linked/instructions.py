@@ -3,12 +3,15 @@
 usage: instructions.py BENCH MEASURE
 
 BENCH and MEASURE are the programs of this folder. `BENCH cases` gives the
-cases in which each step has most to do. `MEASURE calls` makes them with the
-proved library, and `BENCH calls` with the yardstick in Rust. `BENCH wear`,
-`MEASURE wear-calls` and `BENCH wear-calls` do the same for the wear task. Callgrind
-counts within the one function that makes a step or levels, what it calls
-included, and writes a file after each call of it. It fails if the wear task
-takes more than is allowed.
+cases in which each step has most to do, and `BENCH rows` the row of each in the
+table. `MEASURE calls` makes them with the proved library, and `BENCH calls` with
+the yardstick in Rust. `BENCH wear`, `MEASURE wear-calls` and `BENCH wear-calls` do
+the same for the wear task. Callgrind counts within the one function that makes a
+step or levels, what it calls included, and writes a file after each call of it.
+It fails if the wear task takes more than is allowed.
+
+Codes of steps are not compared, so that MEASURE may be linked with a library of
+another version: its count stands under done or refused as it has answered.
 """
 import glob
 import os
@@ -20,7 +23,7 @@ import tempfile
 STEPS = ['no such step', 'begin', 'read', 'write', 'close', 'lock', 'enter', 'reread', 'update', 'ask', 'reload',
          'ignore', 'finish', 'publish', 'give up']
 DONE = (0, 13)
-REFUSED = (*range(1, 13), 14)
+REFUSED = (*range(1, 13), 14, 15)
 WEAR_REFUSED = (10, 14, 33, 34)
 WEAR_GROUPS = (8, 1)
 # of a call with eight groups, one of which is picked
@@ -52,24 +55,28 @@ def measure(function, program, mode, cases):
     return [(step, code, count) for (step, code), count in zip(made, totals)]
 
 
-def worst(measured, step, codes):
-    """The most instructions of a step with one of these codes, or nothing."""
-    return max((count for made, code, count in measured if made == step and code in codes), default='')
+def worst(measured, row, codes):
+    """The most instructions in a row with one of these codes, or nothing."""
+    return max((count for made, code, count in measured if made == row and code in codes), default='')
 
 
-def table(library, rust):
-    """A line for each step."""
+def table(rows, library, rust):
+    """A line for each step, then one for each case with a row of its own."""
+    library, rust = ([(row, code, count) for row, (_, code, count) in zip(rows, calls)] for calls in (library, rust))
+    own = [row for row in rows if row not in STEPS]
+    line = '%%-%ds  %%8s %%8s  %%8s %%8s' % max(map(len, rows))
     print('instructions of a call, 64 cells and 8 busy slots with full logs, the worst of each step:')
-    line = '%-12s  %8s %8s  %8s %8s'
     print(line % ('', 'done:', '', 'refused:', ''))
     print(line % ('step', 'library', 'Rust', 'library', 'Rust'))
-    for step, name in enumerate(STEPS):
-        print(line % (name, worst(library, step, DONE), worst(rust, step, DONE),
-                      worst(library, step, REFUSED), worst(rust, step, REFUSED)))
-    count, step, code = max((count, step, code) for step, code, count in library)
-    print('worst of the library: %d, %s with code %d' % (count, STEPS[step], code))
-    ratio = sum(call[2] for call in library) / sum(call[2] for call in rust)
-    print('ratio of the library to Rust over all these calls: %.2f' % ratio)
+    for row in STEPS + own:
+        print(line % (row, worst(library, row, DONE), worst(rust, row, DONE),
+                      worst(library, row, REFUSED), worst(rust, row, REFUSED)))
+    of_steps = [[call for call in calls if call[0] in STEPS] for calls in (library, rust)]
+    for calls, where in ((of_steps[0], 'in the rows of the steps'), (library, 'in all rows')):
+        count, row, code = max((count, row, code) for row, code, count in calls)
+        print('worst of the library %s: %d, %s with code %d' % (where, count, row, code))
+    ratio = sum(call[2] for call in of_steps[0]) / sum(call[2] for call in of_steps[1])
+    print('ratio of the library to Rust over all calls in the rows of the steps: %.2f' % ratio)
 
 
 def wear_table(library, rust):
@@ -100,7 +107,8 @@ def main():
     if len(sys.argv) != 3:
         sys.exit(__doc__)
     bench, program = sys.argv[1:]
-    table(measure('crocktendril_step', program, 'calls', cases_of(bench, 'cases')),
+    rows = cases_of(bench, 'rows').decode('ascii').splitlines()
+    table(rows, measure('crocktendril_step', program, 'calls', cases_of(bench, 'cases')),
           measure('oracle::inplace::step_in_place', bench, 'calls', b''))
     library = measure('crocktendril_wear', program, 'wear-calls', cases_of(bench, 'wear'))
     rust = measure('oracle::inplace::wear::wear_in_place', bench, 'wear-calls', b'')

@@ -3,17 +3,19 @@
 //!
 //! One slot, the subject, makes the step. Of the others, slots 1 to 3 hold the
 //! cells from 16 on, in twilight, publishing and locking, and slots 4 to 7 are
-//! open.
+//! open. What the flag costs is seen where the others all have it set.
 
-use std::ops::Range;
-
-use oracle::machine::CELLS_AT_MOST;
+use oracle::machine::{CELLS_AT_MOST, SLOTS};
 use oracle::wear::GROUPS_AT_MOST;
-use oracle::{Call, Machine, Step, Value};
+use oracle::{Call, Step, Transaction, Value};
 use Step::*;
+
+use crate::stage::{usual_values, Stage, HELD, STALE, SUBJECT};
 
 /// An area and the step to be made on it.
 pub struct Case {
+    /// The row that it belongs to: the step's name, or one of its own.
+    pub row: &'static str,
     /// The area before the step.
     pub area: Vec<u8>,
     /// The step.
@@ -32,15 +34,8 @@ pub struct WearCase {
     pub number: u64,
 }
 
-/// The slot that makes the step.
-pub const SUBJECT: u8 = 8;
-
-/// The cell that another slot publishes after the subject has read it: the
-/// last of its reads, so that its mark is found last.
-const STALE: u8 = 15;
-
-/// A cell that another slot holds.
-const HELD: u8 = 16;
+/// The row of the area that takes most of a check.
+pub const ALL_FLAGGED: &str = "no such step, 8 slots with the flag";
 
 /// For each step a case or two in which it is done, and one in which it is
 /// refused as late as it can be; for each cause why a cell can't be read, one.
@@ -49,9 +44,12 @@ pub fn all() -> Option<Vec<Case>> {
     let mut cases = before_locking(&idle, &Stage::set(0..STALE)?);
     cases.extend(while_locking(&idle, &Stage::set(0..STALE + 1)?));
     let entered = Stage::set(0..STALE + 1)?.entered();
-    cases.extend(in_twilight(&entered, &Stage::set(1..HELD + 1)?.entered()));
-    cases.extend(after_twilight(&entered));
+    let may_ignore = Stage::set_with_a_held_read()?.entered();
+    cases.extend(in_twilight(&entered, &Stage::set(1..HELD + 1)?.entered(), &may_ignore));
+    cases.extend(after_twilight(&may_ignore));
     cases.extend(whatever_the_slot(&idle));
+    cases.extend(with_marks(&entered, &Stage::set(HELD..HELD + 16)?.entered()));
+    cases.extend(with_flags(&Stage::among_flags()?)?);
     Some(cases)
 }
 
@@ -109,12 +107,6 @@ fn values_with(groups: &[(bool, i32)]) -> Vec<Value> {
     values
 }
 
-/// One of each kind in turn.
-fn usual_values() -> Vec<Value> {
-    let one_of_each = [Value::Truth(true), Value::Whole(1), Value::Real(f32::from_bits(1))];
-    one_of_each.into_iter().cycle().take(CELLS_AT_MOST).collect()
-}
-
 fn before_locking(idle: &Stage, stale: &Stage) -> Vec<Case> {
     let begun = idle.then(Begin);
     let room_to_read = begun.each(Write, 48..64).each(Read, 0..15);
@@ -146,7 +138,7 @@ fn while_locking(idle: &Stage, stale: &Stage) -> Vec<Case> {
     ]
 }
 
-fn in_twilight(entered: &Stage, reads_held: &Stage) -> Vec<Case> {
+fn in_twilight(entered: &Stage, reads_held: &Stage, may_ignore: &Stage) -> Vec<Case> {
     let mut cases = Vec::new();
     for step in [Reread, Update, Ask] {
         cases.extend([entered.case(step, 15, 0), entered.case(step, HELD, 8)]);
@@ -155,17 +147,17 @@ fn in_twilight(entered: &Stage, reads_held: &Stage) -> Vec<Case> {
         entered.case(Reload, 0, 0),
         reads_held.case(Reload, 0, 11),
         entered.at_last_stamp().case(Reload, 0, 12),
-        entered.case(Ignore, 0, 0),
+        may_ignore.case(Ignore, 0, 0),
         entered.case(Finish, 0, 13),
-        entered.then(Ignore).case(Finish, 0, 0),
+        may_ignore.then(Ignore).case(Finish, 0, 0),
         entered.case(Publish, 0, 4),
         entered.case(GiveUp, 0, 0),
     ]);
     cases
 }
 
-fn after_twilight(entered: &Stage) -> Vec<Case> {
-    let committed = entered.then(Ignore).then(Finish);
+fn after_twilight(may_ignore: &Stage) -> Vec<Case> {
+    let committed = may_ignore.then(Ignore).then(Finish);
     vec![
         committed.case(Ignore, 0, 4),
         committed.case(Finish, 0, 4),
@@ -182,109 +174,49 @@ fn whatever_the_slot(idle: &Stage) -> Vec<Case> {
     let begin = Call { step: Begin.number(), slot: SUBJECT, ..Call::default() };
     let slots_at = 14 + 14 * CELLS_AT_MOST;
     let mut cases = vec![
-        Case { area: area.clone(), call: Call { step: 0, ..begin }, code: 2 },
-        Case { area: area.clone(), call: Call { slot: 9, ..begin }, code: 3 },
+        idle.no_such_step("no such step"),
+        Case { row: Begin.name(), area: area.clone(), call: Call { slot: 9, ..begin }, code: 3 },
     ];
     for last in [slots_at - 8, area.len() - 1] {
         let mut area = area.clone();
         area[last] = 0xff;
-        cases.push(Case { area, call: begin, code: 1 });
+        cases.push(Case { row: Begin.name(), area, call: begin, code: 1 });
     }
     cases
 }
 
-#[derive(Clone)]
-struct Stage(Machine);
+/// Full logs: the last cell of both is the only one that is marked and written,
+/// or all that was read is marked and other cells are written.
+fn with_marks(entered: &Stage, apart: &Stage) -> Vec<Case> {
+    vec![
+        entered.case(Ignore, 0, 15).in_row("ignore, the last marked is the last written"),
+        apart.case(Ignore, 0, 0).in_row("ignore, 16 marks and 16 other writes"),
+    ]
+}
 
-impl Stage {
-    /// The others in their places, after the subject has begun and read these
-    /// cells. It is idle if there are none.
-    fn set(early_reads: Range<u8>) -> Option<Stage> {
-        let mut stage = Stage::fresh(&usual_values())?;
-        if !early_reads.is_empty() {
-            stage = stage.then(Begin).each(Read, early_reads);
-        }
-        Some(stage.among_others())
-    }
+/// Every other slot has the flag set, with 16 marks and 16 writes, and then the
+/// subject, too.
+fn with_flags(subject: &Stage) -> Option<Vec<Case>> {
+    let mut all = subject.clone();
+    all.commit_and_keep_one(SUBJECT);
+    let flags = all.0.transactions().filter(|(_, own)| is_full_and_flagged(own)).count();
+    (flags == SLOTS).then(|| {
+        vec![
+            all.no_such_step(ALL_FLAGGED),
+            subject.locked().case(Enter, 0, 0).in_row("enter, 7 others with the flag"),
+            subject.entered().case(Reload, 0, 0).in_row("reload, 7 others with the flag"),
+        ]
+    })
+}
 
-    /// All slots idle.
-    fn fresh(values: &[Value]) -> Option<Stage> {
-        Machine::fresh(values).map(Stage)
-    }
+fn is_full_and_flagged(own: &Transaction) -> bool {
+    let full = [own.reads.len(), own.writes.len()] == [Transaction::LOG_ROOM; 2];
+    let flag = own.commit().is_some_and(|commit| commit.ignoring);
+    full && flag && own.reads.iter().all(|read| read.marked)
+}
 
-    /// The others have come to their places.
-    fn among_others(mut self) -> Stage {
-        for step in [Begin, Write, Close, Lock, Enter, Finish, Publish] {
-            self.make(7, step, STALE);
-        }
-        for slot in 4..=7 {
-            self.fill_logs(slot, 16..32);
-        }
-        for (slot, cells) in [(1, 16..32), (2, 32..48), (3, 48..64)] {
-            self.fill_logs(slot, cells.clone());
-            self.make(slot, Close, 0);
-            cells.for_each(|_| self.make(slot, Lock, 0));
-        }
-        for (slot, step) in [(1, Enter), (2, Enter), (2, Finish)] {
-            self.make(slot, step, 0);
-        }
-        self
-    }
-
-    fn fill_logs(&mut self, slot: u8, cells: Range<u8>) {
-        self.make(slot, Begin, 0);
-        for cell in cells {
-            self.make(slot, Read, cell);
-            self.make(slot, Write, cell);
-        }
-    }
-
-    fn make(&mut self, slot: u8, step: Step, cell: u8) {
-        let call = self.call(slot, step, cell);
-        self.0.step(call);
-    }
-
-    /// A value that the step brings is one that suits the cell.
-    fn call(&self, slot: u8, step: Step, cell: u8) -> Call {
-        let value = self.0.cells()[usize::from(cell)].value;
-        let (kind, word) = (value.kind().number(), value.word());
-        Call { step: step.number(), slot, cell, kind, word }
-    }
-
-    /// The subject has made the step.
-    fn then(&self, step: Step) -> Stage {
-        self.times(step, 1)
-    }
-
-    fn times(&self, step: Step, times: u8) -> Stage {
-        let mut next = self.clone();
-        (0..times).for_each(|_| next.make(SUBJECT, step, 0));
-        next
-    }
-
-    /// The subject has made the step on each of these cells.
-    fn each(&self, step: Step, cells: Range<u8>) -> Stage {
-        let mut next = self.clone();
-        cells.for_each(|cell| next.make(SUBJECT, step, cell));
-        next
-    }
-
-    /// The subject has written to all cells that are left to it, and locked.
-    fn locked(&self) -> Stage {
-        self.each(Write, 0..16).then(Close).times(Lock, 16)
-    }
-
-    fn entered(&self) -> Stage {
-        self.locked().then(Enter)
-    }
-
-    fn at_last_stamp(&self) -> Stage {
-        let mut area = self.0.pack();
-        area[6..14].fill(0xff);
-        Machine::unpack(&area).map_or_else(|| self.clone(), Stage)
-    }
-
-    fn case(&self, step: Step, cell: u8, code: u8) -> Case {
-        Case { area: self.0.pack(), call: self.call(SUBJECT, step, cell), code }
+impl Case {
+    fn in_row(self, row: &'static str) -> Case {
+        Case { row, ..self }
     }
 }

@@ -7,3 +7,4 @@ pub mod busy;
 pub mod cases;
 #[allow(unsafe_code)]
 pub mod library;
+pub mod stage;

@@ -76,7 +76,7 @@ fn before_flag(machine: &Machine, place: usize) -> Option<Machine> {
 
 impl Random {
     /// A well-formed machine with the flag set in the slot at this place.
-    fn machine_that_ignores(&mut self) -> (Machine, usize) {
+    pub(super) fn machine_that_ignores(&mut self) -> (Machine, usize) {
         loop {
             let n = self.pick(&[2, 3, 5, 17, 20, 32, 33, 64]).unwrap_or(64);
             let mut machine = self.machine_with(n, Random::values);
@@ -135,7 +135,7 @@ impl Random {
 
     /// The same machine with a mark on a cell that is written, and sometimes on
     /// no other.
-    fn losing(&mut self, mut machine: Machine, place: usize) -> Option<(Machine, Lost)> {
+    pub(super) fn losing(&mut self, mut machine: Machine, place: usize) -> Option<(Machine, Lost)> {
         let own = machine.slots[place].as_mut()?;
         let at = self.place(own.writes.len());
         let Write { cell, value } = *own.writes.get(at)?;

@@ -8,6 +8,7 @@ use crate::generate::Habit;
 use crate::ignores::Repairs;
 use crate::machine::{Machine, Phase, Transaction, SLOTS};
 use crate::wear::wear_on_bytes;
+use crate::wellformed::faults;
 
 /// Tasks that level on an area, one after the other.
 struct Walk {
@@ -115,7 +116,20 @@ impl Round<'_> {
             let (set, slot) = self.random.wear_arguments(&machine, open);
             self.wear(&mut spoilt, &set, slot)?;
         }
-        Ok(())
+        (0..10).try_for_each(|_| self.level_where_an_update_is_lost())
+    }
+
+    /// Whatever the set and the slot are, there is nothing else at fault.
+    fn level_where_an_update_is_lost(&mut self) -> Made {
+        let (machine, place) = self.random.machine_that_ignores();
+        let Some((losing, _)) = self.random.losing(machine, place) else {
+            return Ok(());
+        };
+        let slot = self.random.between(1, SLOTS as u64) as u8;
+        let (set, slot) = self.random.wear_arguments(&losing, slot);
+        let mut area = losing.pack();
+        self.tally.wear.note_lost(&faults(&area));
+        self.wear(&mut area, &set, slot)
     }
 
     /// Makes the operation on both and leaves the area as it then is.

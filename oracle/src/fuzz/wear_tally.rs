@@ -8,6 +8,7 @@ use crate::machine::{Machine, Transaction};
 use crate::record::HEADER_LENGTH;
 use crate::wear::GROUPS_AT_MOST;
 use crate::wear_set::{reasons, REASON_COUNT};
+use crate::wellformed::NO_UPDATE_LOST;
 
 /// The codes that there are, in the order in which they are tested.
 const CODES: [(u8, u64); 9] = [
@@ -49,6 +50,8 @@ pub struct WearTally {
     /// Code 15 because the count itself is marked, and commits after that.
     marked_counts: u64,
     repaired: u64,
+    /// Areas that have no other fault than an update lost.
+    lost: u64,
 }
 
 impl WearTally {
@@ -107,6 +110,11 @@ impl WearTally {
         self.marked_counts += 1;
     }
 
+    /// Notes an area that was made to lose an update, if it has no other fault.
+    pub fn note_lost(&mut self, faults: &[&str]) {
+        self.lost += u64::from(*faults == [NO_UPDATE_LOST]);
+    }
+
     pub(super) fn counts(&self) -> Vec<Count> {
         let mut counts: Vec<Count> = Vec::new();
         for (code, least) in CODES {
@@ -131,6 +139,7 @@ impl WearTally {
             ("commits of tasks that levelled, marks ignored", self.commits_with_marks, 6),
             ("code 15 of tasks that levelled", self.marked_counts, 20),
             ("code 15 of tasks that levelled, repaired", self.repaired, 4),
+            ("wear code 1 for this alone: an update is lost", self.lost, 300),
         ];
         counts.extend(named.map(|(name, count, least)| (name.to_string(), count, least)));
         counts

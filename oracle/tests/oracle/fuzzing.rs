@@ -5,6 +5,7 @@ use oracle::{lay_out_on_bytes, step_in_place, step_on_bytes, wear_in_place, wear
 
 use crate::peek::Peek;
 use crate::slips::{self, Slip, Wear, BAD_SETS_TAKEN, SLIPS};
+use crate::wrong_ignores::{loses_updates_alone, with_lost_marks_hidden};
 use crate::wrong_ignores::{LENIENT_CHECKS, STRICT_CHECKS, WRONG_FLAGS, WRONG_IGNORES};
 use crate::wrong_obstacles::WRONG_OBSTACLES;
 
@@ -57,12 +58,16 @@ const WRONG_LAY_OUTS: [(&str, LayOut); 4] = [
     }),
 ];
 
-const WRONG_WEARS: [(&str, Wear); 5] = [
+const WRONG_WEARS: [(&str, Wear); 6] = [
     ("always refuses", |_, _, _| 1 << 40),
     ("always picks the first", |_, _, _| 2 << 32),
     ("changes nothing", |area, set, slot| wear_on_bytes(&mut area.to_vec(), set, slot)),
     ("believes that the set is as long as its last byte says", |area, set, slot| {
         wear_on_bytes(area, &set[..set.len() % 256], slot)
+    }),
+    ("does not see that an update is lost", |area, set, slot| match loses_updates_alone(area) {
+        true => wear_on_bytes(&mut with_lost_marks_hidden(area), set, slot),
+        false => wear_on_bytes(area, set, slot),
     }),
     ("clears an area that is not well formed", |area, set, slot| {
         let number = wear_on_bytes(area, set, slot);
@@ -105,7 +110,7 @@ pub const IGNORED: [&str; 12] = [
 ];
 
 /// Those that damaged areas and tasks that level are needed for, too.
-const IGNORED_BY_SORT: [&str; 8] = [
+const IGNORED_BY_SORT: [&str; 9] = [
     "an update lost, in twilight:",
     "an update lost, in publishing:",
     "an update lost, in publishing, the cell is published already:",
@@ -114,6 +119,7 @@ const IGNORED_BY_SORT: [&str; 8] = [
     "commits of tasks that levelled, marks ignored:",
     "code 15 of tasks that levelled:",
     "code 15 of tasks that levelled, repaired:",
+    "wear code 1 for this alone: an update is lost:",
 ];
 
 pub fn step(area: &mut [u8], call: Call) -> u64 {

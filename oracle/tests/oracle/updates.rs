@@ -111,6 +111,7 @@ fn no_increment_is_lost_whoever_ignores_what() {
     let (faults, missing, (updates, ignoring)) = runs(step, 400);
     assert_eq!(faults.iter().sum::<usize>(), 0);
     assert_eq!(missing.iter().sum::<u32>(), 0);
+    println!("{updates} commits with a cell in both logs, {ignoring} of them ignored marks");
     assert!(updates >= 4000 && ignoring >= 100, "{updates}, {ignoring}");
 }
 
@@ -120,5 +121,6 @@ fn before_the_request_increments_were_lost() {
     let (faults, missing, _) = runs(before_the_request, 400);
     let bad = faults.iter().filter(|faults| **faults > 0).count();
     let lossy = missing.iter().filter(|missing| **missing > 0).count();
+    println!("{bad} of 400 runs break the sentence, {lossy} have lost an increment");
     assert!(bad >= 50 && lossy >= 50, "{bad}, {lossy}");
 }

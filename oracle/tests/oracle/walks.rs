@@ -18,6 +18,7 @@ struct Tally {
     reloads_of_marks: u64,
     flags_set: u64,
     own_reads_written: u64,
+    own_reads_written_beside_marks: u64,
 }
 
 impl Tally {
@@ -41,6 +42,7 @@ impl Tally {
                 self.commits += 1;
                 self.commits_with_marks_ignored += u64::from(marked);
                 self.own_reads_written += u64::from(reads_own_write);
+                self.own_reads_written_beside_marks += u64::from(reads_own_write && marked);
             }
             _ => {}
         }
@@ -58,7 +60,8 @@ impl Tally {
         assert!(self.commits_with_marks_ignored >= 100, "{self:?}");
         assert!(self.clean_enters >= 1000 && self.marked_enters >= 500, "{self:?}");
         assert!(self.reloads_of_marks >= 100 && self.flags_set >= 100, "{self:?}");
-        assert!(self.own_reads_written >= 100, "{self:?}");
+        assert!(self.own_reads_written >= 1000, "{self:?}");
+        assert!(self.own_reads_written_beside_marks >= 50, "{self:?}");
     }
 }
 

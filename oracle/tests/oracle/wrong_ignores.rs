@@ -251,7 +251,7 @@ fn lenient(area: &mut [u8], call: Call, sees: Judge) -> u64 {
 }
 
 /// Whether the area is well formed but for updates that are lost.
-fn loses_updates_alone(area: &[u8]) -> bool {
+pub fn loses_updates_alone(area: &[u8]) -> bool {
     let has_slots = area.len() > 1590 && area.len() == 1590 + 14 * Peek(area).n();
     has_slots && {
         let hidden = with_lost_marks_hidden(area);

@@ -1,11 +1,14 @@
 //! The time of a step of the proved library, and areas for other measurements.
 //!
 //! `bench`: the time over busy sheets, beside that of the yardstick in Rust.
+//! `bench check`: the last part of it, the time of the check of an area alone. No
+//! replies are compared, so that a library of another version can be measured.
 //! `bench cases`: the cases in which each step has most to do, and
 //! `bench sheet`: each step of a busy sheet with the area before it, on standard
 //! output. Each is 2,486 bytes of area and 8 of the step.
 //! `bench calls`: the yardstick makes the steps of `bench cases`, and the number
 //! and the code of each are printed, for callgrind to count what it takes.
+//! `bench rows`: the row that each of them belongs to.
 //! `bench wear`: the cases in which the wear task has most to do, on standard
 //! output. Each is 2,486 bytes of area, the slot, the length of the set, and 16
 //! bytes for the set.
@@ -19,8 +22,9 @@ use std::process::ExitCode;
 use std::time::{Duration, Instant};
 
 use linked::busy::BusySheet;
-use linked::cases::{self, Case, WearCase, SUBJECT};
+use linked::cases::{self, Case, WearCase};
 use linked::library;
+use linked::stage::SUBJECT;
 use oracle::machine::Transaction;
 use oracle::{step_in_place, step_on_bytes, wear_in_place, wear_on_bytes, Call};
 
@@ -34,12 +38,14 @@ fn main() -> ExitCode {
     let mode = env::args().nth(1);
     let result = match mode.as_deref() {
         None => measure(),
+        Some("check") => check_alone(),
         Some("cases") => worst_cases().and_then(|cases| write(&cases)),
         Some("sheet") => sheet_cases().and_then(|cases| write(&cases)),
         Some("calls") => worst_cases().map(make_in_place),
+        Some("rows") => worst_cases().map(print_rows),
         Some("wear") => wear_cases().and_then(|cases| write_wear(&cases)),
         Some("wear-calls") => wear_cases().map(wear_all_in_place),
-        Some(_) => Err("usage: bench [cases|sheet|calls|wear|wear-calls]".to_string()),
+        Some(_) => Err("usage: bench [check|cases|sheet|calls|rows|wear|wear-calls]".to_string()),
     };
     match result {
         Ok(()) => ExitCode::SUCCESS,
@@ -79,13 +85,21 @@ fn measure() -> Result<(), String> {
     check_alone()
 }
 
-/// A step number that there is not: what is left is the check of the area.
+/// A step number that there is not: what is left is the check of the area. The
+/// second area has the flag set in every slot.
 fn check_alone() -> Result<(), String> {
     let sheet = BusySheet::of(1).ok_or("no sheet")?;
     let calls = vec![Call::default(); sheet.calls.len()];
-    let (library, rust) = compare(&sheet.area, &calls);
-    let ratio = library / rust;
-    println!("the check of the area alone: library {library:.0}, Rust {rust:.0}, ratio {ratio:.2}");
+    let cases = cases::all().ok_or("no cases")?;
+    let flagged = cases.into_iter().find(|case| case.row == cases::ALL_FLAGGED);
+    let flagged = flagged.ok_or("no area with flags")?.area;
+    for (name, area) in [("the area", sheet.area), ("an area of flags", flagged)] {
+        let (library, rust) = compare(&area, &calls);
+        let ratio = library / rust;
+        println!(
+            "the check of {name} alone: library {library:.0}, Rust {rust:.0}, ratio {ratio:.2}"
+        );
+    }
     Ok(())
 }
 
@@ -127,7 +141,7 @@ fn time(make_step: MakeStep, area: &[u8], calls: &[Call]) -> Duration {
 
 fn worst_cases() -> Result<Vec<Case>, String> {
     let cases = cases::all().ok_or("no cases")?;
-    for Case { area, call, code } in &cases {
+    for Case { area, call, code, .. } in &cases {
         let given = oracle(&mut area.clone(), *call) >> 40;
         if given != u64::from(*code) {
             return Err(format!("{call:?} was to get code {code} and gets {given}"));
@@ -142,13 +156,17 @@ fn make_in_place(cases: Vec<Case>) {
     }
 }
 
+fn print_rows(cases: Vec<Case>) {
+    cases.iter().for_each(|case| println!("{}", case.row));
+}
+
 fn sheet_cases() -> Result<Vec<Case>, String> {
     let BusySheet { mut area, calls, .. } = BusySheet::of(1).ok_or("no sheet")?;
     let mut cases = Vec::new();
     for call in calls {
         let before = area.clone();
         let code = (oracle(&mut area, call) >> 40) as u8;
-        cases.push(Case { area: before, call, code });
+        cases.push(Case { row: "a step of a busy sheet", area: before, call, code });
     }
     Ok(cases)
 }
