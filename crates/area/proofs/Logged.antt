@@ -24,6 +24,7 @@ use Rattle.rules.specs.Layout.{countIn, lay}
 use Rattle.rules.specs.declared.Cell.{Cell}
 use Rattle.rules.proofs.StateSized.{LogsHold, slot-logs-hold}
 use Rattle.rules.proofs.LayView.{read-log, write-log}
+use Rattle.rules.proofs.LogFront.{front-inside}
 use Rattle.rules.proofs.RoundTrip.{state-right, state-but-holders}
 use Rattle.rules.proofs.AreaRead.{count-read, slots-read}
 use Rattle.area.specs.Good.{Good, stateIn}
@@ -32,8 +33,8 @@ use Rattle.area.specs.InPlace.{recordAt, fieldsIn}
 -- each log of v fits its array, and each entry is of a cell of the area
 pub record Logged (l : List ℕ) (v : SlotRecord) : Type 0 where
   pub whole : length (v .reads) ≡ readCapacity
-  pub most : v .readcount ≤ readCapacity
-  pub inside : (k : ℕ) → k < v .readcount → getD (v .reads) k noRead .cell < countIn l
+  pub readsMost : v .readcount ≤ readCapacity
+  pub readsInside : (k : ℕ) → k < v .readcount → getD (v .reads) k noRead .cell < countIn l
   pub writesMost : v .writecount ≤ writeCapacity
   pub writesInside : (k : ℕ) → k < v .writecount → getD (v .writes) k noWrite .cell < countIn l
 
@@ -45,27 +46,12 @@ reads-laid (locking taken start reads writes) = refl
 reads-laid (twilight ignoring start commit reads writes) = refl
 reads-laid (publishing ignoring taken start commit reads writes) = refl
 
-count-laid : (x : Slot) → lay x .readcount ≡ length (readsOf x)
-count-laid idle = refl
-count-laid (opened start reads writes) = refl
-count-laid (locking taken start reads writes) = refl
-count-laid (twilight ignoring start commit reads writes) = refl
-count-laid (publishing ignoring taken start commit reads writes) = refl
-
-written-laid : (x : Slot) → lay x .writecount ≡ length (writesOf x)
-written-laid idle = refl
-written-laid (opened start reads writes) = refl
-written-laid (locking taken start reads writes) = refl
-written-laid (twilight ignoring start commit reads writes) = refl
-written-laid (publishing ignoring taken start commit reads writes) = refl
-
--- a log of any kind, as far as its count goes, in the front of its array: each entry is of a cell
-front-inside : {A : Type 0} (cell word : A → ℕ) (d : A) (cells : List Cell) (array log : List A) (count : ℕ) → take count array ≡ log → count ≡ length log
-    → all (λ e. loggedRight cells (cell e) (word e)) log ≡ true → (k : ℕ) → k < count → cell (getD array k d) < length cells
-unfolding loggedRight
-front-inside cell word d cells array log count front size p k h =
-    rw (← getD-take count array k d h, front)
-    (ltb-true _ _ (and-left _ _ (all-at (λ e. ltb (cell e) (length cells) and legalWord (getD cells (cell e) noCell .kind) (word e)) log d p k (rw (← size) h))))
+counts-laid : (x : Slot) → (lay x .readcount ≡ length (readsOf x)) × (lay x .writecount ≡ length (writesOf x))
+counts-laid idle = (refl, refl)
+counts-laid (opened start reads writes) = (refl, refl)
+counts-laid (locking taken start reads writes) = (refl, refl)
+counts-laid (twilight ignoring start commit reads writes) = (refl, refl)
+counts-laid (publishing ignoring taken start commit reads writes) = (refl, refl)
 
 -- each slot of a good area is right
 pub slot-holds : (l : List ℕ) → Good l → (i : ℕ) → i < 8 → slotRight (stateIn l .cells) (stateIn l .clock) (slotAt (stateIn l) i) ≡ true
@@ -81,14 +67,14 @@ unfolding readsRight writesRight
 logged-laid l x logs =
     record {
       whole = ap length (reads-laid x) ∙ length-padded noRead (readsOf x) readCapacity (logs .readsFew);
-      most = rw (count-laid x) (logs .readsFew);
-      inside = rw (← count-read controller l)
+      readsMost = rw (counts-laid x .0) (logs .readsFew);
+      readsInside = rw (← count-read controller l)
           (front-inside (λ (e : ReadEntry). e .cell) (λ (e : ReadEntry). e .word) noRead (stateIn l .cells) (lay x .reads) (readsOf x) (lay x .readcount)
-          (read-log x) (count-laid x) (and-left _ _ (logs .readsHold)));
-      writesMost = rw (written-laid x) (logs .writesFew);
+          (read-log x) (counts-laid x .0) (and-left _ _ (logs .readsHold)));
+      writesMost = rw (counts-laid x .1) (logs .writesFew);
       writesInside = rw (← count-read controller l)
           (front-inside (λ (e : WriteEntry). e .cell) (λ (e : WriteEntry). e .word) noWrite (stateIn l .cells) (lay x .writes) (writesOf x) (lay x .writecount)
-          (write-log x) (written-laid x) (and-left _ _ (logs .writesHold)));
+          (write-log x) (counts-laid x .1) (and-left _ _ (logs .writesHold)));
     }
 
 -- the record of a slot of a good area

@@ -8,10 +8,10 @@ use Rattle.wire.specs.Table.{tab}
 use Rattle.slot.specs.declared.ReadEntry.{ReadEntry}
 use Rattle.slot.specs.Layout.{readCapacity, writeCapacity, noRead, noWrite, slotSize, bit}
 use Rattle.slot.specs.Logic.{_and_, any}
-use Rattle.slot.specs.Logs.{readLog, writeLog, markedWritten}
+use Rattle.slot.specs.Logs.{hasMarkedWritten}
 use Rattle.packed.specs.Places.{slotIn}
 
--- the slot is there, its counts are at most 16, and the cells in its logs are below 64
+-- the slot is there, its stamps have at most 8 bytes, its counts are at most 16, and the cells in its logs are below 64
 pub record Indexed (width at : ℕ) (l : List ℕ) : Type 0 where
   pub narrow : width ≤ 8
   pub size : at + slotSize width ≤ length l
@@ -30,4 +30,4 @@ markedTable reads = tab 64 (λ c. bit (marksCell reads c))
 
 -- some marked cell is also in the write log
 abbrev pub markedWrittenAt : (width at : ℕ) → List ℕ → Bool
-markedWrittenAt width at l = markedWritten (readLog (slotIn width at l)) (writeLog (slotIn width at l))
+markedWrittenAt width at l = hasMarkedWritten (slotIn width at l)

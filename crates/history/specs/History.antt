@@ -106,7 +106,7 @@ pub record Demand3 (S : State) (events : List Event) (T : State) : Type 0 where
   pub entriesHad : All (λ (x : Commit). All (λ (e : ReadEntry). e .mark ≡ false → e .word ≡ replay S events (pred (x .stamp)) (e .cell)) (x .reads)) (commits events)
   -- "Each transaction that committed without ignoring marks had at its finish, for every cell in its read log, what the replay holds just before its own stamp."
   pub commitsHad : All (λ (x : Commit). x .ignoring ≡ false → All (λ (e : ReadEntry). e .word ≡ replay S events (pred (x .stamp)) (e .cell)) (x .reads)) (commits events)
-  -- "Every committed transaction, ignoring or not, holds for each cell in both its logs the replay's value just before its stamp."
+  -- "every committed transaction, ignoring or not, holds for each cell in both its logs the replay's value just before its stamp."
   pub updatesHad : All
       (λ (x : Commit).
       All (λ (e : ReadEntry). writesCell (x .writes) (e .cell) ≡ true → e .word ≡ replay S events (pred (x .stamp)) (e .cell)) (x .reads))

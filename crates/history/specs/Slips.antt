@@ -1,4 +1,4 @@
--- The slips that look right, and half of a wrong core, as steps that differ from document 01's in a row or two, and for each a history that shows it. The wrong cores, whole,
+-- The slips that look right, and half of a wrong core, as steps that differ from the right one in a row or two, and for each a history that shows it. The wrong cores, whole,
 -- are in `tested/specs/WrongCores.antt`.
 use mathlib.Core.Bool.{true, false, not, cond}
 use mathlib.Core.List.{List, [], _∷_, _++_, map}
@@ -19,7 +19,7 @@ use Rattle.rules.specs.Step.{Call}
 use Rattle.rules.specs.Run.{call}
 use Rattle.rules.specs.Edges.{alone}
 
--- the step of document 01 but for one row
+-- the right step but for one row
 unfoldable pub slip : ℕ → (State → Call → Outcome) → (State → Call → Outcome) → State → Call → Outcome
 slip number wrong next S a = cond (eqb (a .step) number) (wrong S a) (next S a)
 

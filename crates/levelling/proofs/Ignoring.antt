@@ -21,7 +21,7 @@ use Rattle.wearset.specs.WearSet.{setLengthRight, cellFits, placeRight, setRigh
 use Rattle.level.specs.Level.{readAt, readFirst}
 use Rattle.wear.specs.Wear.{wear}
 use Rattle.levelling.specs.CountsUp.{Levels, signed, RightPick, OnlyLevelled, NeverFallsBy}
-use Rattle.levelling.specs.Ignoring.{oneGroup, itsSet, levelsTo, countMarked, truthMarked, ignores, lastPublish, repairs, rightStep, losingStep, countAfter, ofRun, raising, disabling, IgnoreRefused, Repaired, WithoutTheRule, TruthIgnored}
+use Rattle.levelling.specs.Ignoring.{oneGroup, itsSet, levelsTo, countMarked, ignores, lastPublish, countIgnored, truthIgnored, repairs, rightStep, losingStep, countAfter, ofRun, raising, disabling, IgnoreRefused, Repaired, WithoutTheRule, TruthIgnored}
 
 -- opens what a run of calls computes, and what the pick rule does
 unfoldable runs : ℕ
@@ -53,12 +53,12 @@ unfolding runs
 repaired-commits = refl
 
 -- the run without the rule: task 3 comes last, with what it read first
-lost-commits : commits (ofRun losingStep ((countMarked ++ ignores) ++ lastPublish)) ≡ (raising 1 5 false false ∷ raising 2 6 false false ∷ raising 3 5 false true ∷ [])
+lost-commits : commits (ofRun losingStep countIgnored) ≡ (raising 1 5 false false ∷ raising 2 6 false false ∷ raising 3 5 false true ∷ [])
 unfolding runs slip ignoreLoses
 lost-commits = refl
 
 -- the run with a marked truth cell: task 3 ignores that mark
-truth-commits : commits (ofRun rightStep (truthMarked ++ ignores ++ lastPublish)) ≡ (disabling ∷ raising 2 5 true false ∷ [])
+truth-commits : commits (ofRun rightStep truthIgnored) ≡ (disabling ∷ raising 2 5 true false ∷ [])
 unfolding runs
 truth-commits = refl
 
@@ -72,13 +72,13 @@ repaired-only =
     subst (All LevelsCount) (sym repaired-commits)
     (λ w. levels 1 5 false false refl refl, (λ w. levels 2 6 false false refl refl, (λ w. levels 4 7 false false refl refl, tt)))
 
-lost-only : OnlyLevelled (ofRun losingStep ((countMarked ++ ignores) ++ lastPublish)) 1
+lost-only : OnlyLevelled (ofRun losingStep countIgnored) 1
 unfolding picks
 lost-only =
     subst (All LevelsCount) (sym lost-commits)
     (λ w. levels 1 5 false false refl refl, (λ w. levels 2 6 false false refl refl, (λ w. levels 3 5 false true refl refl, tt)))
 
-truth-only : OnlyLevelled (ofRun rightStep (truthMarked ++ ignores ++ lastPublish)) 1
+truth-only : OnlyLevelled (ofRun rightStep truthIgnored) 1
 unfolding picks
 truth-only = subst (All LevelsCount) (sym truth-commits) (λ w. absurd (false≢true w), (λ w. levels 2 5 true false refl refl, tt))
 
@@ -87,7 +87,7 @@ count-before : countAfter losingStep (countMarked ++ ignores) ≡ 7
 unfolding runs slip ignoreLoses
 count-before = refl
 
-count-fallen : countAfter losingStep ((countMarked ++ ignores) ++ lastPublish) ≡ 6
+count-fallen : countAfter losingStep countIgnored ≡ 6
 unfolding runs slip ignoreLoses
 count-fallen = refl
 
@@ -95,7 +95,7 @@ headline-false : NeverFallsBy controller losingStep → ⊥
 headline-false never = subst₂ (λ a b. signed a ≤ℤ signed b) count-before count-fallen (never oneGroup at-rest (countMarked ++ ignores) lastPublish 1 lost-only) .le
 
 -- just before stamp 2 the truth cell has 0
-not-the-pick : RightPick oneGroup (ofRun rightStep (truthMarked ++ ignores ++ lastPublish)) 2 itsSet 0 → ⊥
+not-the-pick : RightPick oneGroup (ofRun rightStep truthIgnored) 2 itsSet 0 → ⊥
 unfolding runs logAt upTo
 not-the-pick right = false≢true (right .least .isUsable)
 

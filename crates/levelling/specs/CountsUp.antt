@@ -98,7 +98,7 @@ writers (x ∷ L) c = counted (x .writes) c + writers L c
 -- of a history from state S
 pub record CountsUp (S : State) (events : List Event) : Type 0 where
   -- A commit that levels raises the picked group's count by exactly one over what the replay holds just before its stamp, and changes no other cell. Marks are no part of
-  -- this: the count's cell is in both its logs, and for such cells demand 3 asks nothing of marks.
+  -- this: the count's cell is in both its logs, and for such cells demand 3 holds whatever is marked.
   pub countsUp :
       All (λ (x : Commit). (set : List ℕ) (g : ℕ) → LevelsWith set g (x .reads) (x .writes)
       → RaisesOne S events (x .stamp) (getD set (erasesPlace g) 0)) (commits events)

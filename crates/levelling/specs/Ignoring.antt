@@ -60,6 +60,13 @@ ignores = alone 11 3 ∷ alone 12 3 ∷ []
 abbrev pub lastPublish : List Call
 lastPublish = alone 13 3 ∷ []
 
+-- .. either run to its end
+abbrev pub countIgnored : List Call
+countIgnored = (countMarked ++ ignores) ++ lastPublish
+
+abbrev pub truthIgnored : List Call
+truthIgnored = truthMarked ++ ignores ++ lastPublish
+
 -- right: task 3 reloads, rereads the count, updates its write to one more, finishes and publishes
 abbrev pub repairs : List Call
 repairs = alone 10 3 ∷ call 7 3 1 0 0 ∷ call 8 3 1 2 8 ∷ alone 12 3 ∷ lastPublish
@@ -68,7 +75,7 @@ repairs = alone 10 3 ∷ call 7 3 1 0 0 ∷ call 8 3 1 2 8 ∷ alone 12 3 ∷ la
 abbrev pub toldAfter : List Call → List Call → List Shown
 toldAfter calls more = replies controller (endState controller oneGroup calls) more
 
--- the step of document 01, and the one without the rule, whose ignore loses updates
+-- the right step, and the one without the rule, whose ignore loses updates
 abbrev pub rightStep : State → Call → Outcome
 rightStep = step controller
 
@@ -123,12 +130,12 @@ pub record Repaired : Type 0 where
 pub record WithoutTheRule : Type 0 where
   -- There are three commits: 5 to 6, 6 to 7, and again 5 to 6, with the mark ignored. Each of them levels.
   pub committed :
-      commits (ofRun losingStep ((countMarked ++ ignores) ++ lastPublish))
+      commits (ofRun losingStep countIgnored)
       ≡ (raising 1 5 false false ∷ raising 2 6 false false ∷ raising 3 5 false true ∷ [])
-  pub only : OnlyLevelled (ofRun losingStep ((countMarked ++ ignores) ++ lastPublish)) 1
+  pub only : OnlyLevelled (ofRun losingStep countIgnored) 1
   -- The publish lets the count fall from 7 to 6. The group has been erased three times more and says one.
   pub before : countAfter losingStep (countMarked ++ ignores) ≡ 7
-  pub fallen : countAfter losingStep ((countMarked ++ ignores) ++ lastPublish) ≡ 6
+  pub fallen : countAfter losingStep countIgnored ≡ 6
   -- So the headline is false.
   pub headlineFalse : NeverFallsBy controller losingStep → ⊥
 
@@ -137,9 +144,9 @@ pub record TruthIgnored : Type 0 where
   -- The truth cell is marked and the erases cell is not; ignore, finish and publish are accepted.
   pub marked : toldAfter truthMarked asks ≡ (shown 0 1 1 ∷ shown 0 1 0 ∷ [])
   pub accepted : toldAfter truthMarked (ignores ++ lastPublish) ≡ (done ∷ done ∷ done ∷ [])
-  pub committed : commits (ofRun rightStep (truthMarked ++ ignores ++ lastPublish)) ≡ (disabling ∷ raising 2 5 true false ∷ [])
+  pub committed : commits (ofRun rightStep truthIgnored) ≡ (disabling ∷ raising 2 5 true false ∷ [])
   -- Its commit levels, and the count is one more ..
-  pub only : OnlyLevelled (ofRun rightStep (truthMarked ++ ignores ++ lastPublish)) 1
-  pub counted : countAfter rightStep (truthMarked ++ ignores ++ lastPublish) ≡ 6
+  pub only : OnlyLevelled (ofRun rightStep truthIgnored) 1
+  pub counted : countAfter rightStep truthIgnored ≡ 6
   -- .. but just before its stamp the group is not usable. That is why `leastWorn` asks that no mark on the set was ignored.
-  pub notThePick : RightPick oneGroup (ofRun rightStep (truthMarked ++ ignores ++ lastPublish)) 2 itsSet 0 → ⊥
+  pub notThePick : RightPick oneGroup (ofRun rightStep truthIgnored) 2 itsSet 0 → ⊥

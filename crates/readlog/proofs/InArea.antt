@@ -18,8 +18,8 @@ indexed-of {l} {i} {at} good below place =
     record {
       narrow = omega arith;
       size = omega arith;
-      reads = logged .most;
+      reads = logged .readsMost;
       writes = logged .writesMost;
-      readsBelow = λ k h. let inside = logged .inside k h in omega arith;
+      readsBelow = λ k h. let inside = logged .readsInside k h in omega arith;
       writesBelow = λ k h. let inside = logged .writesInside k h in omega arith;
     }

@@ -2,8 +2,8 @@
 use mathlib.Core.Bool.{Bool}
 use mathlib.Core.List.{List}
 use Prim.Native.Nat.{ℕ}
-use Rattle.slot.specs.Logs.{readLog, writeLog, markedWritten}
+use Rattle.slot.specs.Logs.{hasMarkedWritten}
 use Rattle.area.specs.InPlace.{recordAt}
 
 abbrev pub markedWrittenIn : List ℕ → ℕ → Bool
-markedWrittenIn l i = markedWritten (readLog (recordAt l i)) (writeLog (recordAt l i))
+markedWrittenIn l i = hasMarkedWritten (recordAt l i)

@@ -33,12 +33,12 @@ use Rattle.rules.specs.Area.{answered, stepOnBytes}
 use Rattle.rules.specs.Run.{call}
 use Rattle.rules.specs.Allowed.{Row, _when_, rowNumber, allowed}
 use Rattle.rules.proofs.Cases.{cond-case, found-case, log-case, idle-case, open-case, locking-case, twilight-case, publishing-case, uncommitted-case}
-use Rattle.rules.specs.Codes.{codeTable, stepOutside, slotOutside, notAllowed, updateLost, cellOutside, valueIllegal, kindDiffers, notInLog, logFull, readHeld, readNewer, cellHeld, stampsSpent, outcomeCode, Ending, refusal, outcome, endingCode, firstOf, tableEnding}
+use Rattle.rules.specs.Codes.{codeTable, stepOutside, slotOutside, notAllowed, markedAlsoWritten, cellOutside, valueIllegal, kindDiffers, notInLog, logFull, readHeld, readNewer, cellHeld, stampsSpent, outcomeCode, Ending, refusal, outcome, endingCode, firstOf, tableEnding}
 use Rattle.rules.specs.LowestCode.{ending, height, lowerApplies, LowestCode}
 
 -- opens the table and the way from a call to its row
 unfoldable table : ℕ
-unfolding step stepOf decoded tableEnding firstOf stepOutside slotOutside notAllowed allowed updateLost cellOutside valueIllegal kindDiffers notInLog logFull readHeld readNewer cellHeld stampsSpent outcomeCode any first readsCell writesCell readEntry writeEntry _and_ _or_
+unfolding step stepOf decoded tableEnding firstOf stepOutside slotOutside notAllowed allowed markedAlsoWritten cellOutside valueIllegal kindDiffers notInLog logFull readHeld readNewer cellHeld stampsSpent outcomeCode any first readsCell writesCell readEntry writeEntry _and_ _or_
 table = 0
 
 -- the outcome ends so

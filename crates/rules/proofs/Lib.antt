@@ -5,6 +5,7 @@ pub mod Blocked
 pub mod Cases
 pub mod Codes
 pub mod LayView
+pub mod LogFront
 pub mod Zeros
 pub mod SlotPlace
 pub mod SlotKept

@@ -78,8 +78,8 @@ module _ (M : Model) (S : State) (a : Call) where
   notAllowed = not (allowed (a .step) own)
 
   -- 15: ignore: some marked cell is also in the slot's write log
-  unfoldable pub updateLost : Bool
-  updateLost = isIgnore and markedWritten (readsOf own) (writesOf own)
+  unfoldable pub markedAlsoWritten : Bool
+  markedAlsoWritten = isIgnore and markedWritten (readsOf own) (writesOf own)
 
   -- 5: read, write, reread, update, ask: cell not below n
   unfoldable pub cellOutside : Bool
@@ -127,7 +127,7 @@ module _ (M : Model) (S : State) (a : Call) where
       2 when stepOutside
       ∷ 3 when slotOutside
       ∷ 4 when notAllowed
-      ∷ 15 when updateLost
+      ∷ 15 when markedAlsoWritten
       ∷ 5 when cellOutside
       ∷ 6 when valueIllegal
       ∷ 7 when kindDiffers

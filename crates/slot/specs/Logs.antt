@@ -60,9 +60,12 @@ readLog v = take (v .readcount) (v .reads)
 abbrev pub writeLog : SlotRecord → List WriteEntry
 writeLog v = take (v .writecount) (v .writes)
 
--- an entry of the read log is marked
+-- an entry of the read log is marked, and some marked cell is also in the write log
 abbrev pub hasMark : SlotRecord → Bool
 hasMark v = someMarked (readLog v)
+
+abbrev pub hasMarkedWritten : SlotRecord → Bool
+hasMarkedWritten v = markedWritten (readLog v) (writeLog v)
 
 -- a busy slot's record, whole, from its logs
 abbrev pub busyRecord : ℕ → Bool → ℕ → ℕ → ℕ → List ReadEntry → List WriteEntry → SlotRecord

@@ -1,7 +1,7 @@
 -- The clauses of a slot put together.
 use mathlib.Core.Bool.{Bool, true}
 use mathlib.Core.List.{List}
-use mathlib.Core.Path.{_≡_}
+use mathlib.Core.Path.{_≡_, refl, sym}
 use Prim.Native.Nat.{ℕ, _≤_, _<_}
 use native.Mathlib.Omega.{arith}
 use borrow.Author.Tests.{leb-true}
@@ -14,6 +14,7 @@ use Rattle.slot.specs.Logic.{_and_, all}
 use Rattle.slot.proofs.Logic.{and-assoc, and-left, and-right, all-at}
 use Rattle.rules.specs.Model.{controller}
 use Rattle.rules.specs.Layout.{cellsIn}
+use Rattle.rules.proofs.LogFront.{front-inside}
 use Rattle.rules.specs.LogsRight.{loggedRight, readsRight, writesRight}
 use Rattle.rules.specs.AreaRight.{countsRight, busyRight, unusedZero}
 use Rattle.bothlogs.specs.BothLogs.{Indexed}
@@ -22,20 +23,13 @@ use Rattle.logcheck.specs.Logged.{Counted, logsRightIn}
 use Rattle.logcheck.specs.Marked.{markedRight}
 use Rattle.packed.proofs.InLog.{reads-sized, writes-sized}
 use Rattle.logcheck.proofs.Chains.{and-comm, and-swap}
-use Rattle.logcheck.proofs.CellPlaces.{logged-below}
-use Rattle.slotcheck.specs.SlotParts.{numbersRight, slotUpdateKept}
+use Rattle.logcheck.proofs.CellPlaces.{length-cells}
+use Rattle.slotcheck.specs.SlotParts.{numbersRight, slotNoUpdateLost}
 
 -- right counts
 pub counted : (l : List ℕ) → 197 ≤ length l → countsRight (slotOf 8 l) ≡ true → Counted l
 unfolding countsRight slotOf
 counted l h p = record { size = h; reads = leb-true _ _ (and-left _ _ p); writes = leb-true _ _ (and-right _ _ p) }
-
--- a log in the front of an array, each entry of which is logged right: its cells are below n
-cell-below : {A : Type 0} (cell word : A → ℕ) (d : A) (a : List ℕ) (n : ℕ) → Framed n a → (array : List A) (count : ℕ) → count ≤ length array
-    → all (λ e. loggedRight (cellsIn controller a) (cell e) (word e)) (take count array) ≡ true → (k : ℕ) → k < count → cell (getD array k d) < n
-cell-below cell word d a n framed array count room p k h =
-    rw (← getD-take count array k d h)
-    (logged-below n a framed _ _ (all-at (λ e. loggedRight (cellsIn controller a) (cell e) (word e)) (take count array) d p k (rw (length-take-le count array room) h)))
 
 -- right logs have cells below n, and so below 64
 pub indexed : (a l : List ℕ) (n : ℕ) → Framed n a → Counted l → logsRightIn a (slotOf 8 l) ≡ true → Indexed 8 0 l
@@ -47,15 +41,13 @@ indexed a l n framed counted p =
       reads = counted .reads;
       writes = counted .writes;
       readsBelow = λ k h.
-          let below = cell-below (λ (e : ReadEntry). e .cell) (λ (e : ReadEntry). e .word) noRead a n framed (slotOf 8 l .reads) (slotOf 8 l .readcount)
-          (rw (reads-sized 8 0 l) (counted .reads)) (and-left _ _ (and-left _ _ p)) k h in
-          let most = framed .many in
-          omega arith;
+          let below = front-inside (λ (e : ReadEntry). e .cell) (λ (e : ReadEntry). e .word) noRead (cellsIn controller a) (slotOf 8 l .reads) _ (slotOf 8 l .readcount)
+          refl (sym (length-take-le _ _ (rw (reads-sized 8 0 l) (counted .reads)))) (and-left _ _ (and-left _ _ p)) k h in
+          omega (arith, length-cells n a framed, framed .many);
       writesBelow = λ k h.
-          let below = cell-below (λ (e : WriteEntry). e .cell) (λ (e : WriteEntry). e .word) noWrite a n framed (slotOf 8 l .writes) (slotOf 8 l .writecount)
-          (rw (writes-sized 8 0 l) (counted .writes)) (and-left _ _ (and-right _ _ p)) k h in
-          let most = framed .many in
-          omega arith;
+          let below = front-inside (λ (e : WriteEntry). e .cell) (λ (e : WriteEntry). e .word) noWrite (cellsIn controller a) (slotOf 8 l .writes) _ (slotOf 8 l .writecount)
+          refl (sym (length-take-le _ _ (rw (writes-sized 8 0 l) (counted .writes)))) (and-left _ _ (and-right _ _ p)) k h in
+          omega (arith, length-cells n a framed, framed .many);
     }
 
 -- a busy slot's clauses in the order of the code
@@ -66,7 +58,7 @@ inCodeOrder a clock l =
     and numbersRight clock (slotOf 8 l)
     and unusedZero 8 l (slotOf 8 l)
     and markedRight l
-    and slotUpdateKept l
+    and slotNoUpdateLost l
 
 pub busy-order : (a : List ℕ) (clock : ℕ) (l : List ℕ) → inCodeOrder a clock l ≡ busyRight controller (cellsIn controller a) clock l (slotOf 8 l)
 unfolding busyRight logsRightIn numbersRight markedRight

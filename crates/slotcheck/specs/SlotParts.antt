@@ -31,8 +31,8 @@ abbrev pub stampsRight : List ℕ → Bool
 stampsRight a = commitsApart (recordsIn controller a)
 
 -- no marked cell of a slot with the flag is also in its write log
-abbrev pub slotUpdateKept : List ℕ → Bool
-slotUpdateKept l = noUpdateLost (slotOf 8 l .ignoring) (readLog (slotOf 8 l)) (writeLog (slotOf 8 l))
+abbrev pub slotNoUpdateLost : List ℕ → Bool
+slotNoUpdateLost l = noUpdateLost (slotOf 8 l .ignoring) (readLog (slotOf 8 l)) (writeLog (slotOf 8 l))
 
 -- start, taken and commit stamp
 unfoldable pub numbersRight : ℕ → SlotRecord → Bool

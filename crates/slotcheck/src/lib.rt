@@ -8,7 +8,7 @@ ghost use Rattle.rules.specs.Layout.{cellsIn, slotPlace};
 ghost use Rattle.rules.specs.AreaRight.{busyRight};
 ghost use Rattle.bothlogs.specs.BothLogs.{Indexed};
 ghost use Rattle.logcheck.specs.Frame.{Framed};
-ghost use Rattle.slotcheck.specs.SlotParts.{slotRightIn, slotsRight, slotUpdateKept};
+ghost use Rattle.slotcheck.specs.SlotParts.{slotRightIn, slotsRight, slotNoUpdateLost};
 use logcheck::CELL;
 use logcheck::FLAG_AT;
 use logcheck::HEADER;
@@ -23,9 +23,9 @@ pub mod stamps;
 pub const SLOTS: usize = 8;
 
 // The flag is 1 only if no marked cell is also in the write log. A slot without the flag doesn't pay for the look at both logs.
-fn update_kept(t: &[u8]) -> bool
+fn no_update_lost(t: &[u8]) -> bool
     requires { ⌜ Indexed 8 0 (now t) ⌝ }
-    ensures { λ r. ⌜ r ≡ slotUpdateKept (now (t .entry)) ⌝ }
+    ensures { λ r. ⌜ r ≡ slotNoUpdateLost (now (t .entry)) ⌝ }
 {
     t[FLAG_AT] != 1 || !bothlogs::marked_written(t, 0, STAMP)
 }
@@ -50,7 +50,7 @@ fn busy_right(s: &[u8], n: usize, clock: u64, t: &[u8]) -> bool
     if !logcheck::marks::marked_right(t) {
         return false;
     }
-    update_kept(t)
+    no_update_lost(t)
 }
 
 // Phases 0 to 4; an idle slot all zero. `t` are the bytes from the slot on, in an area `s` of `n` cells.

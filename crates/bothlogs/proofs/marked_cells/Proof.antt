@@ -4,6 +4,7 @@ use mathlib.Core.Path.{_≡_}
 use Prim.Native.Nat.{_+_, _-_, _≤_, _<_}
 use native.Mathlib.Omega.{arith}
 use lib.ListN.{length}
+use Rattle.slot.specs.Layout.{readCapacity}
 use Rattle.packed.specs.Places.{slotIn}
 use Rattle.packed.proofs.InLog.{reads-counted, reads-sized}
 use Rattle.bothlogs.proofs.Overlap.{Tabled, tabled-start, tabled-unmarked, tabled-marked, tabled-whole}
@@ -31,19 +32,16 @@ cast-count c =
 loop-holds : tie.Need-loop-holds Inv-loop μ-loop
 loop-holds c = let args = let c : tie.Start Inv-loop μ-loop = search in c .args in (omega arith, tabled-start (slotIn (args .width) (args .at) (args .s .now) .reads))
 
--- a turn begins at an entry of the array
-inside : (c : tie.In-loop Inv-loop μ-loop)
-    → let args = let c : tie.Start Inv-loop μ-loop = search in c .args in
-    c .before .loop .i < length (slotIn (args .width) (args .at) (args .s .now) .reads)
+-- a turn begins at an entry of the log
+inside : (c : tie.In-loop Inv-loop μ-loop) → c .before .loop .i < readCapacity
 inside c =
     let start = let c : tie.Start Inv-loop μ-loop = search in c in
-    omega (arith, c .loop-test .taken, start .pre .reads, reads-counted (start .args .width) (start .args .at) (start .args .s .now), reads-sized (start .args .width) (start .args .at) (start .args .s .now))
+    omega (arith, c .loop-test .taken, start .pre .reads, reads-counted (start .args .width) (start .args .at) (start .args .s .now))
 
 read-at-requires : tie.Need-read-at-requires Inv-loop μ-loop
 read-at-requires c κs =
     let pre = let c : tie.Start Inv-loop μ-loop = search in c .pre in
-    let args = let c : tie.Start Inv-loop μ-loop = search in c .args in
-    (pre .narrow, pre .size, rw (← reads-sized (args .width) (args .at) (args .s .now)) (inside c))
+    (pre .narrow, pre .size, inside c)
 
 -- the entry that was read has a cell below 64
 cell-below : (c : tie.After-read-at Inv-loop μ-loop) → c .read-at .result .cell < 64
@@ -71,7 +69,9 @@ loop-again : tie.Need-loop-again Inv-loop μ-loop
 loop-again c =
     let here = let c : tie.After-read-at Inv-loop μ-loop = search in c .read-at .ensures in
     let loop = let c : tie.At-loop Inv-loop μ-loop = search in c .loop in
-    let room = let c : tie.In-loop Inv-loop μ-loop = search in inside c in (
+    let args = let c : tie.Start Inv-loop μ-loop = search in c .args in
+    let here-inside = let c : tie.In-loop Inv-loop μ-loop = search in inside c in
+    let room : loop .i < length (slotIn (args .width) (args .at) (args .s .now) .reads) = rw (reads-sized (args .width) (args .at) (args .s .now)) here-inside in (
       omega arith,
       elim (c .if1 .came) [
         | inl on ↦ rw (on .2) (tabled-marked _ _ room (loop .inv .1) here (on .0 .taken))

@@ -64,7 +64,7 @@ cell-at-requires : tie.Need-cell-at-requires Inv-loop μ-loop
 cell-at-requires c κs =
     let start = let c : tie.Start Inv-loop μ-loop = search in c in
     let loop = let c : tie.At-loop Inv-loop μ-loop = search in c .loop in
-    ((start .pre .0), rw (c .read-at .ensures) (loop .inv .1 .logged .inside _ (omega arith)))
+    ((start .pre .0), rw (c .read-at .ensures) (loop .inv .1 .logged .readsInside _ (omega arith)))
 
 held-by-other-requires : tie.Need-held-by-other-requires Inv-loop μ-loop
 held-by-other-requires c κs = omega arith

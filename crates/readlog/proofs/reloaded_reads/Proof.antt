@@ -45,7 +45,7 @@ reloaded-entry-requires : tie.Need-reloaded-entry-requires Inv-loop μ-loop
 reloaded-entry-requires c κs =
     let start = let c : tie.Start Inv-loop μ-loop = search in c in
     let loop = let c : tie.At-loop Inv-loop μ-loop = search in c .loop in
-    ((start .pre .0), rw (c .read-at .ensures) (loop .inv .1 .logged .inside (loop .k) (omega arith)))
+    ((start .pre .0), rw (c .read-at .ensures) (loop .inv .1 .logged .readsInside (loop .k) (omega arith)))
 
 mul-log : tie.Need-mul-log Inv-loop μ-loop
 mul-log c = omega arith

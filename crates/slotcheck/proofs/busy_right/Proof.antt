@@ -90,8 +90,8 @@ returns-5 c =
     (pass _ _ _ (passes (unused-zero .ensures) if4) (stop _ _ _ (fails (c .before .marked-right .ensures) (c .if5 .taken)) refl))))
     ∙ busy-order (args .s .now) (args .clock) (args .t .now)
 
-update-kept-requires : tie.Need-update-kept-requires
-update-kept-requires c κs =
+no-update-lost-requires : tie.Need-no-update-lost-requires
+no-update-lost-requires c κs =
     let args = let c : tie.Start = search in c .args in
     let pre = let c : tie.Start = search in c .pre in
     let counts-right = let c : tie.After-counts-right = search in c .counts-right in
@@ -116,7 +116,7 @@ returns-6 c =
     pass _ _ _ (passes (counts-right .ensures) if1)
     (pass _ _ _ (passes (logs-right .ensures) if2)
     (pass _ _ _ (passes (numbers-right .ensures) if3)
-    (pass _ _ _ (passes (unused-zero .ensures) if4) (pass _ _ _ (passes (marked-right .ensures) if5) (c .update-kept .ensures)))))
+    (pass _ _ _ (passes (unused-zero .ensures) if4) (pass _ _ _ (passes (marked-right .ensures) if5) (c .no-update-lost .ensures)))))
     ∙ busy-order (args .s .now) (args .clock) (args .t .now)
 
 pub busy-right-spec : {M : Type 1} → statement M
@@ -133,5 +133,5 @@ busy-right-spec =
     returns-4
     marked-right-requires
     returns-5
-    update-kept-requires
+    no-update-lost-requires
     returns-6)

@@ -7,8 +7,8 @@ use borrow.Author.Tests.{eq-eqb, ne-eqb}
 use Rattle.slot.specs.Layout.{slotOf}
 use Rattle.rules.specs.LogsRight.{noUpdateLost}
 use Rattle.logcheck.proofs.Chains.{or-yes, or-no}
-use Rattle.slotcheck.proofs.update_kept.Statement.{statement}
-use Rattle.slotcheck.proofs.update_kept.Tie as tie
+use Rattle.slotcheck.proofs.no_update_lost.Statement.{statement}
+use Rattle.slotcheck.proofs.no_update_lost.Tie as tie
 
 shared-slice-read-if1 : tie.Need-shared-slice-read-if1
 shared-slice-read-if1 c = let start = let c : tie.Start = search in c in omega (arith, start .pre .size)
@@ -26,5 +26,5 @@ returns-2 c =
     let flag = let c : tie.Else1 = search in c .if1 .left in
     ap not (c .marked-written .ensures) ∙ or-no _ _ (ap not (eq-eqb _ _ flag))
 
-pub update-kept-spec : {M : Type 1} → statement M
-update-kept-spec = tie.close (tie.spec shared-slice-read-if1 marked-written-requires returns returns-2)
+pub no-update-lost-spec : {M : Type 1} → statement M
+no-update-lost-spec = tie.close (tie.spec shared-slice-read-if1 marked-written-requires returns returns-2)
