@@ -3,25 +3,19 @@ use mathlib.Core.Bool.{true}
 use mathlib.Core.List.{List}
 use mathlib.Core.Path.{_≡_, refl, ap, _∙_}
 use Prim.Native.Nat.{ℕ, _≤_, _<_}
-use lib.Dec.{ltb}
-use lib.ListN.{length, getD, take}
-use lib.Seq.{getD-take}
-use borrow.Author.Tests.{ltb-true}
-use Rattle.value.specs.Legal.{legalWord}
+use lib.ListN.{length, getD}
 use Rattle.slot.specs.declared.ReadEntry.{ReadEntry}
 use Rattle.slot.specs.declared.WriteEntry.{WriteEntry}
 use Rattle.slot.specs.declared.SlotRecord.{SlotRecord}
 use Rattle.slot.specs.Layout.{readCapacity, writeCapacity, noRead, noWrite}
-use Rattle.slot.specs.Logic.{_and_, all}
 use Rattle.slot.specs.Logs.{paddedReads}
 use Rattle.slot.proofs.Logic.{and-left, and-right, all-at}
 use Rattle.slot.proofs.Padding.{length-padded}
 use Rattle.rules.specs.Model.{controller}
-use Rattle.rules.specs.State.{Slot, idle, opened, locking, twilight, publishing, readsOf, writesOf, startOf, slotAt, noCell}
-use Rattle.rules.specs.LogsRight.{loggedRight, readsRight, writesRight}
+use Rattle.rules.specs.State.{Slot, idle, opened, locking, twilight, publishing, readsOf, writesOf, startOf, slotAt}
+use Rattle.rules.specs.LogsRight.{readsRight, writesRight}
 use Rattle.rules.specs.StateRight.{slotRight, stateRightButHolders}
 use Rattle.rules.specs.Layout.{countIn, lay}
-use Rattle.rules.specs.declared.Cell.{Cell}
 use Rattle.rules.proofs.StateSized.{LogsHold, slot-logs-hold}
 use Rattle.rules.proofs.LayView.{read-log, write-log}
 use Rattle.rules.proofs.LogFront.{front-inside}

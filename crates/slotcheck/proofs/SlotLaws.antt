@@ -2,20 +2,20 @@
 use mathlib.Core.Bool.{Bool, true}
 use mathlib.Core.List.{List}
 use mathlib.Core.Path.{_≡_, refl, sym}
-use Prim.Native.Nat.{ℕ, _≤_, _<_}
+use Prim.Native.Nat.{ℕ, _≤_}
 use native.Mathlib.Omega.{arith}
 use borrow.Author.Tests.{leb-true}
-use lib.ListN.{length, getD, take}
-use lib.Seq.{getD-take, length-take-le}
+use lib.ListN.{length}
+use lib.Seq.{length-take-le}
 use Rattle.slot.specs.declared.ReadEntry.{ReadEntry}
 use Rattle.slot.specs.declared.WriteEntry.{WriteEntry}
 use Rattle.slot.specs.Layout.{noRead, noWrite, slotOf}
-use Rattle.slot.specs.Logic.{_and_, all}
-use Rattle.slot.proofs.Logic.{and-assoc, and-left, and-right, all-at}
+use Rattle.slot.specs.Logic.{_and_}
+use Rattle.slot.proofs.Logic.{and-assoc, and-left, and-right}
 use Rattle.rules.specs.Model.{controller}
 use Rattle.rules.specs.Layout.{cellsIn}
 use Rattle.rules.proofs.LogFront.{front-inside}
-use Rattle.rules.specs.LogsRight.{loggedRight, readsRight, writesRight}
+use Rattle.rules.specs.LogsRight.{readsRight, writesRight}
 use Rattle.rules.specs.AreaRight.{countsRight, busyRight, unusedZero}
 use Rattle.bothlogs.specs.BothLogs.{Indexed}
 use Rattle.logcheck.specs.Frame.{Framed}
