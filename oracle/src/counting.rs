@@ -64,7 +64,7 @@ impl Random {
         let missing = counted.find(|read| own.write_of(read.cell).is_none());
         match missing.and_then(|read| counted_up(own, read.cell)) {
             Some(next) => bringing(Step::Write, slot, next),
-            None if own.reads.is_empty() || self.one_in(2) => {
+            None if own.reads.is_empty() || !self.one_in(3) => {
                 let cell = self.place(machine.cells().len()) as u8;
                 Call { cell, ..bare(Step::Read, slot) }
             }

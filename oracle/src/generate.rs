@@ -184,9 +184,6 @@ impl Random {
             Phase::Locking { taken } if taken < own.writes.len() => &[Lock],
             Phase::Locking { .. } => &[Enter],
             Phase::Twilight(_) if self.one_in(20) => &[GiveUp],
-            Phase::Twilight(Commit { ignoring: false, .. }) if own.some_mark() => {
-                &[Reread, Update, Ask, Reload, Ignore, Ignore, Finish]
-            }
             Phase::Twilight(_) => &[Reread, Update, Ask, Reload, Ignore, Finish, Finish],
             Phase::Publishing { .. } => &[Publish],
         };
@@ -197,10 +194,6 @@ impl Random {
         let logged: Vec<u8> = match (step, own) {
             (Step::Reread | Step::Ask, Some(own)) => own.reads.iter().map(|r| r.cell).collect(),
             (Step::Update, Some(own)) => own.writes.iter().map(|w| w.cell).collect(),
-            // Counting up writes what was read.
-            (Step::Write, Some(own)) if self.one_in(3) => {
-                own.reads.iter().map(|r| r.cell).collect()
-            }
             _ => Vec::new(),
         };
         if logged.is_empty() || self.one_in(10) {

@@ -17,7 +17,7 @@ const LEAST_COUNTS_ARE_FOR: u64 = 2_000;
 const OBSTACLES: [u64; obstacles::COUNTED] = [4000, 200, 12, 12, 30, 90, 150, 200, 150];
 
 /// The least counts of ignores and of what comes of them.
-const IGNORES: [u64; ignores::COUNTED] = [400, 70, 25, 14, 3, 9, 160, 100, 600, 130, 30];
+const IGNORES: [u64; ignores::COUNTED] = [350, 60, 25, 18, 2, 4, 120, 50, 450, 110, 30];
 
 /// Counts of what was compared and found alike.
 #[derive(Clone, Debug, Default)]
@@ -101,7 +101,7 @@ impl Tally {
         for code in (2..=11).chain([14, 15]) {
             let least = match code {
                 14 => 2_500,
-                15 => 300,
+                15 => 200,
                 _ => 500,
             };
             counts.push((format!("code {code}"), self.codes[code], least));

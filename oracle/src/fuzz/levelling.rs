@@ -37,9 +37,9 @@ impl Round<'_> {
         let sets = [(); 2].map(|()| self.random.wear_set(&machine, 1));
         let repairs = Repairs::default();
         let mut walk = Walk { area, machine, levelled: [false; SLOTS], repairs };
-        let slots = self.random.pick(&[1, 2, 3, 5, 8]).unwrap_or(2);
+        let slots = self.random.pick(&[2, 3, 5, 8]).unwrap_or(2);
         let habit = Habit { slots, patience: self.random.between(1, 6) };
-        for _ in 0..200 {
+        for _ in 0..250 {
             let mut call = self.random.call_among_tasks(&walk.machine, habit);
             if let Some(own) = walk
                 .levelled_in(call.slot)

@@ -18,7 +18,7 @@ const LEAST_COUNTS_ARE_FOR: u64 = 250_000;
 const OBSTACLES: [u64; obstacles::COUNTED] = [1500, 200, 70, 70, 100, 150, 5, 60, 25];
 
 /// The least counts of ignores and of what comes of them.
-const IGNORES: [u64; ignores::COUNTED] = [1000, 400, 60, 60, 70, 60, 400, 1000, 200, 80, 15];
+const IGNORES: [u64; ignores::COUNTED] = [1000, 400, 60, 60, 70, 60, 400, 1000, 180, 80, 12];
 
 /// The least counts of areas that lose an update, in the order of their names.
 const LOST: [u64; Lost::ALL.len()] = [900, 600, 300];

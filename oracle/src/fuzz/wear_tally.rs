@@ -136,8 +136,8 @@ impl WearTally {
             ("picks on a tie", self.ties, 400),
             ("picks beside an unusable group with fewer erases", self.unusable_with_fewer, 250),
             ("commits of tasks that levelled", self.commits, 200),
-            ("commits of tasks that levelled, marks ignored", self.commits_with_marks, 6),
-            ("code 15 of tasks that levelled", self.marked_counts, 20),
+            ("commits of tasks that levelled, marks ignored", self.commits_with_marks, 5),
+            ("code 15 of tasks that levelled", self.marked_counts, 30),
             ("code 15 of tasks that levelled, repaired", self.repaired, 4),
             ("wear code 1 for this alone: an update is lost", self.lost, 300),
         ];

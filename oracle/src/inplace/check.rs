@@ -102,20 +102,13 @@ fn writes_are_good(writes: &[WriteBytes], cells: &[CellBytes]) -> bool {
     })
 }
 
-/// No marked cell is written. Asked of slots with the flag alone, whose entries
-/// are good: the cells are below 64.
-fn no_update_lost(reads: &[ReadBytes], writes: &[WriteBytes]) -> bool {
-    cells_of_marked(reads) & cells_of(writes) == 0
-}
-
-/// A bit for each cell of the entries that are marked.
-pub fn cells_of_marked(reads: &[ReadBytes]) -> u64 {
-    reads.iter().fold(0, |cells, read| cells | u64::from(read[MARK]) << read[0])
-}
-
-/// A bit for each cell of the entries.
-pub fn cells_of(writes: &[WriteBytes]) -> u64 {
-    writes.iter().fold(0, |cells, write| cells | 1 << write[0])
+/// No marked cell is written. The check asks it of slots with the flag alone, so
+/// that no other slot pays for it, and of entries that are good: their cells are
+/// below 64, so a word has a bit for each.
+pub fn no_update_lost(reads: &[ReadBytes], writes: &[WriteBytes]) -> bool {
+    let marked = reads.iter().fold(0, |cells, read| cells | u64::from(read[MARK]) << read[0]);
+    let written = writes.iter().fold(0, |cells, write| cells | 1 << write[0]);
+    marked & written == 0
 }
 
 /// Every byte is looked at, which is quicker than to stop at the first that

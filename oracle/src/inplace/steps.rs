@@ -1,6 +1,6 @@
 //! The fourteen steps on the bytes of a well-formed area.
 
-use super::check::{cells_of, cells_of_marked, held};
+use super::check::{held, no_update_lost};
 use super::view::*;
 use crate::call::{Call, Refusal, Reply, Step};
 use crate::machine::Transaction;
@@ -145,11 +145,10 @@ impl Turn<'_> {
     }
 
     fn ignore(self) -> Outcome {
-        let marked = cells_of_marked(self.reads());
-        if marked & cells_of(self.writes()) != 0 {
+        if !no_update_lost(self.reads(), self.writes()) {
             return Err(Refusal::MarkedWritten);
         }
-        self.own[IGNORING] = u8::from(marked != 0);
+        self.own[IGNORING] = self.some_mark().into();
         DONE
     }
 
