@@ -1,12 +1,15 @@
 -- The statement of demand 3 bites: at each slip's history it is false, by computation.
+use mathlib.Core.List.{[], _∷_, _++_, map}
 use mathlib.Core.Path.{_≡_, refl}
 use Prim.Native.Nat.{ℕ}
 use native.Mathlib.Omega.{arith}
+use lib.ListN.{replicate}
+use Rattle.call.specs.Answer.{replyCode}
 use Rattle.rules.specs.Model.{controller}
 use Rattle.rules.specs.Step.{step}
 use Rattle.rules.specs.SheetS.{beforeS}
 use Rattle.rules.proofs.Open.{computed}
-use Rattle.history.specs.History.{history, final, commits, sharedReads, logAt, upTo, Demand3}
+use Rattle.history.specs.History.{Event, history, final, commits, sharedReads, logAt, upTo, Demand3}
 use Rattle.history.specs.Slips.{slip, closeMarks, enterStamps, writerBetween, reloadKeeps, reloadLater, readHeld, readUnderHold, publishFrees, readUnpublished, publishPretends, writeAlone, ignoreLoses, totaliser}
 
 pub marks-at-close : Demand3 beforeS (history (slip 4 closeMarks (slip 6 enterStamps (step controller))) beforeS writerBetween)
@@ -39,3 +42,8 @@ pub update-dropped : Demand3 beforeS (history (slip 11 ignoreLoses (step control
     (final (slip 11 ignoreLoses (step controller)) beforeS totaliser) → ⊥
 unfolding computed slip ignoreLoses totaliser history final commits logAt upTo
 update-dropped d = let wrong : _≡_ {A = ℕ} 5 15 = d .updatesHad .1 .0 .0 refl in omega arith
+
+-- the right step answers those calls with 0 up to the ignore, which gets 15; its finish is told 13, and there is nothing to publish
+pub totaliser-refused : map (λ (e : Event). replyCode (e .reply)) (history (step controller) beforeS totaliser) ≡ (replicate 14 0 ++ (15 ∷ 13 ∷ 4 ∷ []))
+unfolding computed totaliser history
+totaliser-refused = refl
