@@ -179,8 +179,9 @@ extern "C" {
  *                    Committed, that write would undo what another slot has
  *                    published since the read. RELOAD, REREAD the cell, UPDATE
  *                    it with what follows from its present value, FINISH; or
- *                    give up and begin anew. Trying again never helps, and a
- *                    FINISH without RELOAD gets ABORTED
+ *                    give up and begin anew. Trying again never helps. A FINISH
+ *                    without RELOAD gets ABORTED; one after RELOAD but without
+ *                    UPDATE commits the write as it was
  */
 #define CROCKTENDRIL_CODE_DONE 0
 #define CROCKTENDRIL_CODE_NOT_WELL_FORMED 1

@@ -99,7 +99,8 @@ extern "C" {
  * IGNORE gets MARKED_WRITTEN: RELOAD, and if the same group would be picked of
  * the reloaded values, UPDATE its count with the reloaded one plus one; else
  * give up and begin anew. Marks on other cells may be ignored. The count still
- * goes up by exactly one, but another group may be the least worn by then.
+ * goes up by exactly one, but by then another group may be the least worn, or
+ * the picked one no longer usable.
  */
 uint64_t crocktendril_wear(uint8_t *area, size_t area_len, const uint8_t *set, size_t set_len,
                            uint8_t slot);
