@@ -215,6 +215,18 @@ fn is_full_and_flagged(own: &Transaction) -> bool {
     full && flag && own.reads.iter().all(|read| read.marked)
 }
 
+impl Stage {
+    pub fn case(&self, step: Step, cell: u8, code: u8) -> Case {
+        let call = self.call(SUBJECT, step, cell);
+        Case { row: step.name(), area: self.0.pack(), call, code }
+    }
+
+    pub fn no_such_step(&self, row: &'static str) -> Case {
+        let call = Call { step: 0, slot: SUBJECT, ..Call::default() };
+        Case { row, area: self.0.pack(), call, code: 2 }
+    }
+}
+
 impl Case {
     fn in_row(self, row: &'static str) -> Case {
         Case { row, ..self }
