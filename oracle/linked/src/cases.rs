@@ -7,7 +7,7 @@
 
 use oracle::machine::{CELLS_AT_MOST, SLOTS};
 use oracle::wear::GROUPS_AT_MOST;
-use oracle::{Call, Step, Transaction, Value};
+use oracle::{Call, Step, Value};
 use Step::*;
 
 use crate::stage::{usual_values, Stage, HELD, STALE, SUBJECT};
@@ -199,7 +199,7 @@ fn with_marks(entered: &Stage, apart: &Stage) -> Vec<Case> {
 fn with_flags(subject: &Stage) -> Option<Vec<Case>> {
     let mut all = subject.clone();
     all.commit_and_keep_one(SUBJECT);
-    let flags = all.0.transactions().filter(|(_, own)| is_full_and_flagged(own)).count();
+    let flags = all.0.transactions().filter(|(_, own)| own.is_full_and_ignoring()).count();
     (flags == SLOTS).then(|| {
         vec![
             all.no_such_step(ALL_FLAGGED),
@@ -207,12 +207,6 @@ fn with_flags(subject: &Stage) -> Option<Vec<Case>> {
             subject.entered().case(Reload, 0, 0).in_row("reload, 7 others with the flag"),
         ]
     })
-}
-
-fn is_full_and_flagged(own: &Transaction) -> bool {
-    let full = [own.reads.len(), own.writes.len()] == [Transaction::LOG_ROOM; 2];
-    let flag = own.commit().is_some_and(|commit| commit.ignoring);
-    full && flag && own.reads.iter().all(|read| read.marked)
 }
 
 impl Stage {
