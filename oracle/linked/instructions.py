@@ -62,6 +62,7 @@ def worst(measured, row, codes):
 
 def table(rows, library, rust):
     """A line for each step, then one for each case with a row of its own."""
+    assert len(rows) == len(library) == len(rust), 'not every call has its row'
     library, rust = ([(row, code, count) for row, (_, code, count) in zip(rows, calls)] for calls in (library, rust))
     own = [row for row in rows if row not in STEPS]
     line = '%%-%ds  %%8s %%8s  %%8s %%8s' % max(map(len, rows))

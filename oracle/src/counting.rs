@@ -1,5 +1,3 @@
-//! What the tasks of a random walk do.
-//!
 //! Tasks that count up: each reads some cells and writes some of their
 //! values plus one. What is marked at enter is ignored, reloaded or given up,
 //! and what was reloaded is written anew.
@@ -88,8 +86,8 @@ impl Random {
             }
             Phase::Twilight(_) if self.one_in(12) => bare(Ignore, slot),
             Phase::Twilight(_) => {
-                let next = own.writes.iter().filter_map(|write| counted_up(own, write.cell));
-                let wrong = next.into_iter().find(|next| !own.writes.contains(next));
+                let mut next = own.writes.iter().filter_map(|write| counted_up(own, write.cell));
+                let wrong = next.find(|next| !own.writes.contains(next));
                 wrong.map_or(bare(Finish, slot), |next| bringing(Update, slot, next))
             }
             Phase::Publishing { .. } => bare(Publish, slot),

@@ -115,6 +115,14 @@ impl Transaction {
         self.marked_written().next().is_some()
     }
 
+    /// Whether the flag is set, both logs are full, and all that was read is
+    /// marked. If no update is lost, the logs then have no cell in common.
+    pub fn is_full_and_ignoring(&self) -> bool {
+        let full = [self.reads.len(), self.writes.len()] == [Transaction::LOG_ROOM; 2];
+        let flag = self.commit().is_some_and(|commit| commit.ignoring);
+        full && flag && self.reads.iter().all(|read| read.marked)
+    }
+
     /// What it has from enter on.
     pub fn commit(&self) -> Option<Commit> {
         match self.phase {

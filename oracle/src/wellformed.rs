@@ -18,6 +18,8 @@ pub(crate) const SENTENCE_COUNT: usize = 22;
 pub(crate) const NO_UPDATE_LOST: &str =
     "the flag is 1 only if no marked cell is also in the write log";
 
+pub(crate) const MARK_REQUIRES_FLAG: &str = "in phase 4 a mark requires the flag";
+
 const SENTENCES: [Sentence; SENTENCE_COUNT] = [
     (LENGTHS_AGREE, lengths_agree),
     ("version 1", version_1),
@@ -39,7 +41,7 @@ const SENTENCES: [Sentence; SENTENCE_COUNT] = [
     ("marks are 0 before phase 3", marks_are_0_before_phase_3),
     ("the flag is 1 only if some mark is 1", flag_only_if_some_mark),
     (NO_UPDATE_LOST, no_update_lost),
-    ("in phase 4 a mark requires the flag", in_phase_4_a_mark_requires_the_flag),
+    (MARK_REQUIRES_FLAG, in_phase_4_a_mark_requires_the_flag),
     ("a cell's holder is s exactly if s holds it", holders_exact),
 ];
 

@@ -7,7 +7,7 @@
 
 use oracle::machine::{CELLS_AT_MOST, SLOTS};
 use oracle::wear::GROUPS_AT_MOST;
-use oracle::{Call, Step, Transaction, Value};
+use oracle::{Call, Step, Value};
 use Step::*;
 
 use crate::stage::{usual_values, Stage, HELD, STALE, SUBJECT};
@@ -199,7 +199,7 @@ fn with_marks(entered: &Stage, apart: &Stage) -> Vec<Case> {
 fn with_flags(subject: &Stage) -> Option<Vec<Case>> {
     let mut all = subject.clone();
     all.commit_and_keep_one(SUBJECT);
-    let flags = all.0.transactions().filter(|(_, own)| is_full_and_flagged(own)).count();
+    let flags = all.0.transactions().filter(|(_, own)| own.is_full_and_ignoring()).count();
     (flags == SLOTS).then(|| {
         vec![
             all.no_such_step(ALL_FLAGGED),
@@ -209,10 +209,16 @@ fn with_flags(subject: &Stage) -> Option<Vec<Case>> {
     })
 }
 
-fn is_full_and_flagged(own: &Transaction) -> bool {
-    let full = [own.reads.len(), own.writes.len()] == [Transaction::LOG_ROOM; 2];
-    let flag = own.commit().is_some_and(|commit| commit.ignoring);
-    full && flag && own.reads.iter().all(|read| read.marked)
+impl Stage {
+    pub fn case(&self, step: Step, cell: u8, code: u8) -> Case {
+        let call = self.call(SUBJECT, step, cell);
+        Case { row: step.name(), area: self.0.pack(), call, code }
+    }
+
+    pub fn no_such_step(&self, row: &'static str) -> Case {
+        let call = Call { step: 0, slot: SUBJECT, ..Call::default() };
+        Case { row, area: self.0.pack(), call, code: 2 }
+    }
 }
 
 impl Case {

@@ -7,8 +7,6 @@ use oracle::machine::CELLS_AT_MOST;
 use oracle::{Call, Machine, Step, Value};
 use Step::*;
 
-use crate::cases::Case;
-
 /// The slot that makes the step.
 pub const SUBJECT: u8 = 8;
 
@@ -19,8 +17,9 @@ pub(crate) const STALE: u8 = 15;
 /// A cell that another slot holds.
 pub(crate) const HELD: u8 = 16;
 
-/// One of the same kind as the stale cell.
-pub(crate) const HELD_LIKE_STALE: u8 = 18;
+/// Another one, of the same kind as the stale cell: read in its place, it takes
+/// the check of the read log as long.
+const HELD_LIKE_STALE: u8 = 18;
 
 #[derive(Clone)]
 pub(crate) struct Stage(pub Machine);
@@ -45,8 +44,8 @@ impl Stage {
     }
 
     /// All slots but the subject have the flag set and publish, and the subject
-    /// has read 16 cells that are newer. Slot 1 makes them so first, then slots
-    /// 6 and 7 what it has read itself.
+    /// has read 16 cells that are newer. Slot 1 makes them so first. What slot 1
+    /// itself then reads, slot 6 publishes or holds.
     pub fn among_flags() -> Option<Stage> {
         let mut stage = Stage::fresh(&usual_values())?;
         for slot in 2..=SUBJECT {
@@ -120,7 +119,7 @@ impl Stage {
     }
 
     /// A value that the step brings is one that suits the cell.
-    fn call(&self, slot: u8, step: Step, cell: u8) -> Call {
+    pub fn call(&self, slot: u8, step: Step, cell: u8) -> Call {
         let value = self.0.cells()[usize::from(cell)].value;
         let (kind, word) = (value.kind().number(), value.word());
         Call { step: step.number(), slot, cell, kind, word }
@@ -157,16 +156,6 @@ impl Stage {
         let mut area = self.0.pack();
         area[6..14].fill(0xff);
         Machine::unpack(&area).map_or_else(|| self.clone(), Stage)
-    }
-
-    pub fn case(&self, step: Step, cell: u8, code: u8) -> Case {
-        let call = self.call(SUBJECT, step, cell);
-        Case { row: step.name(), area: self.0.pack(), call, code }
-    }
-
-    pub fn no_such_step(&self, row: &'static str) -> Case {
-        let call = Call { step: 0, slot: SUBJECT, ..Call::default() };
-        Case { row, area: self.0.pack(), call, code: 2 }
     }
 }
 

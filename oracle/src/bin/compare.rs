@@ -2,18 +2,22 @@
 //!
 //! `compare PROGRAM EXAMPLES [seed=N] [sheets=N] [keep=FILE]`: PROGRAM reads a
 //! binary sheet from standard input, EXAMPLES is a folder of sheets in either
-//! form. The first input that is answered otherwise is kept in FILE.
+//! form. The first input that is answered otherwise is kept in FILE. What the
+//! random sheets have reached is judged from 2,000 of them on, which is how many
+//! there are if nothing is said.
 
 use std::env;
 use std::fs;
 use std::path::Path;
 use std::process::ExitCode;
 
-use oracle::compare::{compare, Case, Failure, Plan, Process, Stopped, Tally};
+use oracle::compare::{
+    compare, Case, Failure, Plan, Process, Stopped, Tally, LEAST_COUNTS_ARE_FOR,
+};
 use oracle::{run, text};
 
-const USAGE: &str = "usage: compare PROGRAM EXAMPLES [seed=N] [sheets=N] [keep=FILE]";
-const SHEETS: u64 = 2_000;
+const USAGE: &str = "usage: compare PROGRAM EXAMPLES [seed=N] [sheets=N] [keep=FILE]\n\
+    least counts are judged from sheets=2000 on, which is the usual number";
 const KEEP: &str = "failed.sheet";
 
 struct Asked {
@@ -51,7 +55,7 @@ impl Asked {
         let mut asked = Asked {
             program: program.clone(),
             examples: examples.clone(),
-            plan: Plan { seed: 1, sheets: SHEETS },
+            plan: Plan { seed: 1, sheets: LEAST_COUNTS_ARE_FOR },
             keep: KEEP.to_string(),
         };
         for option in options {
@@ -97,14 +101,19 @@ fn example(file: &Path) -> Result<Case, String> {
 
 fn report(asked: &Asked, tally: &Tally) -> ExitCode {
     println!("{tally}");
-    let short = tally.short(asked.plan.sheets);
+    let Plan { seed, sheets } = asked.plan;
+    let judged = sheets >= LEAST_COUNTS_ARE_FOR;
+    if !judged {
+        println!("compare: {sheets} random sheets are too few to judge what they have reached");
+    }
+    let short = if judged { tally.short(sheets) } else { Vec::new() };
     for line in &short {
         println!("compare: FAILED, too few: {line}");
     }
     if !short.is_empty() {
         return ExitCode::FAILURE;
     }
-    println!("compare: {} inputs answered alike, seed {}", tally.compared(), asked.plan.seed);
+    println!("compare: {} inputs answered alike, seed {seed}", tally.compared());
     ExitCode::SUCCESS
 }
 

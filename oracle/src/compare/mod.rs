@@ -19,7 +19,7 @@ pub use draw::{changed_sheets, full_sheet, random_sheet};
 pub use edges::{cut_sheets, edge_sheets, long_inputs, sheets_in_pieces};
 pub use failure::Failure;
 pub use process::Process;
-pub use tally::Tally;
+pub use tally::{Tally, LEAST_COUNTS_ARE_FOR};
 
 use crate::binary::Sheet;
 use crate::run;

@@ -9,15 +9,15 @@ use crate::ignores::{self, Ignores, Repairs};
 use crate::machine::{Machine, CELLS_AT_MOST};
 use crate::obstacles::{self, Obstacles};
 
-/// The least counts are those of so many random sheets; others are in
-/// proportion.
-const LEAST_COUNTS_ARE_FOR: u64 = 2_000;
+/// The least counts are those of so many random sheets, and of more in
+/// proportion. Fewer may miss one of them by chance.
+pub const LEAST_COUNTS_ARE_FOR: u64 = 2_000;
 
 /// The least counts of steps with another slot in the way.
 const OBSTACLES: [u64; obstacles::COUNTED] = [4000, 200, 12, 12, 30, 90, 150, 200, 150];
 
 /// The least counts of ignores and of what comes of them.
-const IGNORES: [u64; ignores::COUNTED] = [350, 60, 25, 18, 2, 4, 120, 50, 450, 110, 30];
+const IGNORES: [u64; ignores::COUNTED] = [350, 60, 25, 18, 1, 2, 120, 50, 450, 110, 30];
 
 /// Counts of what was compared and found alike.
 #[derive(Clone, Debug, Default)]

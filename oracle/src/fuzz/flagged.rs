@@ -5,7 +5,7 @@ use super::rounds::{Made, Round};
 use crate::call::{Call, Step};
 use crate::machine::{Commit, Machine, Phase, Read, Transaction, Write, SLOTS};
 use crate::random::Random;
-use crate::wellformed::faults;
+use crate::wellformed::{faults, NO_UPDATE_LOST};
 
 /// Where the written cell stands whose mark the flag is on.
 #[derive(Clone, Copy)]
@@ -32,46 +32,42 @@ impl Round<'_> {
     /// not be, and on both without the flag.
     pub(super) fn flagged(&mut self) -> Made {
         let (machine, place) = self.random.machine_that_ignores();
-        if is_full_and_apart(machine.slots[place].as_ref()) {
-            self.tally.note_full_and_apart();
+        if machine.slots[place].as_ref().is_some_and(Transaction::is_full_and_ignoring) {
+            self.tally.note_full_and_ignoring();
         }
         let mut call = self.any_call(&machine);
         self.step(&mut machine.pack(), call)?;
         call.slot = place as u8 + 1;
         self.step(&mut machine.pack(), call)?;
-        self.ignore(Some(&machine), place)?;
-        self.ignore(before_flag(&machine, place).as_ref(), place)?;
+        self.step(&mut machine.pack(), ignore(place))?;
+        self.without_flag(machine.clone(), place, call)?;
         let Some((losing, lost)) = self.random.losing(machine, place) else {
             return Ok(());
         };
-        let area = losing.pack();
-        self.tally.note_lost(&faults(&area), lost);
-        self.spoilt(area, call)?;
-        self.ignore(before_flag(&losing, place).as_ref(), place)
+        self.tally.note_lost(lost);
+        self.spoilt(losing.pack(), call)?;
+        self.without_flag(losing, place, call)
     }
 
-    fn ignore(&mut self, machine: Option<&Machine>, place: usize) -> Made {
-        let call = Call { step: Step::Ignore.number(), slot: place as u8 + 1, ..Call::default() };
-        machine.map_or(Ok(()), |machine| self.step(&mut machine.pack(), call))
+    /// In twilight it is not yet set, and ignore would set it. In publishing it
+    /// is missing, for there a mark requires it, and nothing else is at fault.
+    fn without_flag(&mut self, mut machine: Machine, place: usize, call: Call) -> Made {
+        match machine.slots[place].as_mut().map(|own| &mut own.phase) {
+            Some(Phase::Twilight(commit)) => {
+                commit.ignoring = false;
+                self.step(&mut machine.pack(), ignore(place))
+            }
+            Some(Phase::Publishing { commit, .. }) => {
+                commit.ignoring = false;
+                self.spoilt(machine.pack(), call)
+            }
+            _ => Ok(()),
+        }
     }
 }
 
-fn is_full_and_apart(slot: Option<&Transaction>) -> bool {
-    slot.is_some_and(|own| {
-        let full = [own.reads.len(), own.writes.len()] == [Transaction::LOG_ROOM; 2];
-        full && own.reads.iter().all(|read| read.marked)
-    })
-}
-
-/// The same machine before the flag was set. There is none if the slot is
-/// publishing, where a mark requires the flag.
-fn before_flag(machine: &Machine, place: usize) -> Option<Machine> {
-    let mut machine = machine.clone();
-    match &mut machine.slots[place].as_mut()?.phase {
-        Phase::Twilight(commit) => commit.ignoring = false,
-        _ => return None,
-    }
-    Some(machine)
+fn ignore(place: usize) -> Call {
+    Call { step: Step::Ignore.number(), slot: place as u8 + 1, ..Call::default() }
 }
 
 impl Random {
@@ -134,7 +130,7 @@ impl Random {
     }
 
     /// The same machine with a mark on a cell that is written, and sometimes on
-    /// no other.
+    /// no other. It has no other fault.
     pub(super) fn losing(&mut self, mut machine: Machine, place: usize) -> Option<(Machine, Lost)> {
         let own = machine.slots[place].as_mut()?;
         let at = self.place(own.writes.len());
@@ -150,6 +146,6 @@ impl Random {
         let any = self.place(own.reads.len());
         let entry = own.reads.iter().position(|read| read.cell == cell).unwrap_or(any);
         own.reads[entry] = Read { cell, value, marked: true };
-        Some((machine, lost))
+        (faults(&machine.pack()) == [NO_UPDATE_LOST]).then_some((machine, lost))
     }
 }

@@ -6,16 +6,16 @@ use super::rounds::{Made, Round};
 use crate::call::{Call, Refusal, Reply, Step};
 use crate::generate::Habit;
 use crate::ignores::Repairs;
-use crate::machine::{Machine, Phase, Transaction, SLOTS};
+use crate::machine::{Machine, Transaction, SLOTS};
 use crate::wear::wear_on_bytes;
-use crate::wellformed::faults;
 
 /// Tasks that level on an area, one after the other.
 struct Walk {
     area: Vec<u8>,
     machine: Machine,
-    /// The slots whose transactions have written a count by levelling.
-    levelled: [bool; SLOTS],
+    /// For each slot the cell of the count that its transaction has written by
+    /// levelling.
+    levelled: [Option<u8>; SLOTS],
     repairs: Repairs,
 }
 
@@ -23,7 +23,7 @@ impl Walk {
     /// The slot's transaction, if it has levelled.
     fn levelled_in(&self, slot: u8) -> Option<&Transaction> {
         let levelled = self.levelled.get(usize::from(slot).wrapping_sub(1))?;
-        self.machine.slot(slot).filter(|_| *levelled)
+        self.machine.slot(slot).filter(|_| levelled.is_some())
     }
 }
 
@@ -36,15 +36,12 @@ impl Round<'_> {
         let (area, machine) = self.fresh(&values, 0)?;
         let sets = [(); 2].map(|()| self.random.wear_set(&machine, 1));
         let repairs = Repairs::default();
-        let mut walk = Walk { area, machine, levelled: [false; SLOTS], repairs };
+        let mut walk = Walk { area, machine, levelled: [None; SLOTS], repairs };
         let slots = self.random.pick(&[2, 3, 5, 8]).unwrap_or(2);
         let habit = Habit { slots, patience: self.random.between(1, 6) };
         for _ in 0..250 {
             let mut call = self.random.call_among_tasks(&walk.machine, habit);
-            if let Some(own) = walk
-                .levelled_in(call.slot)
-                .filter(|own| own.phase != Phase::Open && !self.random.one_in(4))
-            {
+            if let Some(own) = walk.levelled_in(call.slot).filter(|_| !self.random.one_in(4)) {
                 call = self.random.call_to_commit(own, call.slot);
             }
             if walk.machine.is_open_and_empty(call.slot) && !self.random.one_in(5) {
@@ -62,8 +59,8 @@ impl Round<'_> {
 
     fn level(&mut self, walk: &mut Walk, set: &[u8], slot: u8) -> Made {
         self.wear(&mut walk.area, set, slot)?;
-        if walk.machine.wear(set, slot).is_ok() {
-            walk.levelled[usize::from(slot) - 1] = true;
+        if let Ok(group) = walk.machine.wear(set, slot) {
+            walk.levelled[usize::from(slot) - 1] = Some(set[2 * group + 1]);
         }
         Ok(())
     }
@@ -77,13 +74,16 @@ impl Round<'_> {
         let Some(levelled) = walk.levelled.get_mut(place) else {
             return Ok(());
         };
-        let own = before.slot(call.slot).filter(|_| *levelled);
+        let own = before.slot(call.slot).zip(*levelled);
         match (Step::numbered(call.step), reply, own) {
-            (Some(Step::Begin), Reply::Done, _) => *levelled = false,
-            (Some(Step::Ignore), Reply::Refused(Refusal::MarkedWritten), Some(_)) => {
+            (Some(Step::Begin), Reply::Done, _) => *levelled = None,
+            (Some(Step::Ignore), Reply::Refused(Refusal::MarkedWritten), Some((own, count)))
+                if own.marked_written().any(|cell| cell == count) =>
+            {
                 self.tally.wear.note_marked_count();
             }
-            (Some(Step::Finish), Reply::Done, Some(own)) => {
+            // What levelling wrote is never taken out of the log again.
+            (Some(Step::Finish), Reply::Done, Some((own, _))) if own.writes.len() == 1 => {
                 self.tally.wear.note_commit(own.some_mark(), repaired);
             }
             _ => {}
@@ -127,9 +127,8 @@ impl Round<'_> {
         };
         let slot = self.random.between(1, SLOTS as u64) as u8;
         let (set, slot) = self.random.wear_arguments(&losing, slot);
-        let mut area = losing.pack();
-        self.tally.wear.note_lost(&faults(&area));
-        self.wear(&mut area, &set, slot)
+        self.tally.wear.lost += 1;
+        self.wear(&mut losing.pack(), &set, slot)
     }
 
     /// Makes the operation on both and leaves the area as it then is.

@@ -9,7 +9,7 @@ use crate::counts::{self, Count};
 use crate::ignores::{self, Ignores};
 use crate::machine::Machine;
 use crate::obstacles::{self, Obstacles};
-use crate::wellformed::{sentences, NO_UPDATE_LOST, SENTENCE_COUNT};
+use crate::wellformed::{sentences, MARK_REQUIRES_FLAG, SENTENCE_COUNT};
 
 /// The least counts are those of so many calls; others are in proportion.
 const LEAST_COUNTS_ARE_FOR: u64 = 250_000;
@@ -22,6 +22,10 @@ const IGNORES: [u64; ignores::COUNTED] = [1000, 400, 60, 60, 70, 60, 400, 1000, 
 
 /// The least counts of areas that lose an update, in the order of their names.
 const LOST: [u64; Lost::ALL.len()] = [900, 600, 300];
+
+/// The least count of areas that lack the flag on a mark in publishing, and
+/// nothing else.
+const MARK_WITHOUT_FLAG: u64 = 1500;
 
 /// Counts of the calls that were answered alike.
 #[derive(Clone, Debug, Default)]
@@ -41,7 +45,7 @@ pub struct Tally {
     lost: [u64; Lost::ALL.len()],
     /// Well-formed areas with the flag set that are next to losing one: all that
     /// was read is marked, and both logs are full.
-    full_and_apart: u64,
+    full_and_ignoring: u64,
 }
 
 impl Tally {
@@ -73,13 +77,12 @@ impl Tally {
         self.lay_outs[code as usize] += 1;
     }
 
-    /// Notes an area that was made to lose an update, if it has no other fault.
-    pub(super) fn note_lost(&mut self, faults: &[&str], lost: Lost) {
-        self.lost[lost as usize] += u64::from(*faults == [NO_UPDATE_LOST]);
+    pub(super) fn note_lost(&mut self, lost: Lost) {
+        self.lost[lost as usize] += 1;
     }
 
-    pub(super) fn note_full_and_apart(&mut self) {
-        self.full_and_apart += 1;
+    pub(super) fn note_full_and_ignoring(&mut self) {
+        self.full_and_ignoring += 1;
     }
 
     pub(super) fn note_faults(&mut self, faults: &[&str]) {
@@ -120,7 +123,7 @@ impl Tally {
             ("reloads", self.done[10], 400),
             ("aborts", self.codes[13], 100),
             ("damaged and still well formed", self.still_well_formed, 2000),
-            ("the flag set, 16 marked reads and 16 writes", self.full_and_apart, 300),
+            ("the flag set, 16 marked reads and 16 writes", self.full_and_ignoring, 300),
         ];
         counts.extend(named.map(|(name, count, least)| (name.to_string(), count, least)));
         counts.extend(self.obstacles.counts(OBSTACLES));
@@ -129,7 +132,8 @@ impl Tally {
             counts.push((format!("an update lost, {}", lost.name()), count, least));
         }
         for (sentence, count) in sentences().zip(self.alone) {
-            counts.push((format!("broken alone: {sentence}"), count, 5));
+            let least = if sentence == MARK_REQUIRES_FLAG { MARK_WITHOUT_FLAG } else { 5 };
+            counts.push((format!("broken alone: {sentence}"), count, least));
         }
         counts.extend(self.wear.counts());
         counts

@@ -8,7 +8,6 @@ use crate::machine::{Machine, Transaction};
 use crate::record::HEADER_LENGTH;
 use crate::wear::GROUPS_AT_MOST;
 use crate::wear_set::{reasons, REASON_COUNT};
-use crate::wellformed::NO_UPDATE_LOST;
 
 /// The codes that there are, in the order in which they are tested.
 const CODES: [(u8, u64); 9] = [
@@ -44,14 +43,16 @@ pub struct WearTally {
     picks: [u64; GROUPS_AT_MOST],
     ties: u64,
     unusable_with_fewer: u64,
+    /// Commits of tasks that levelled and wrote nothing but the count.
     commits: u64,
     /// Those that ignored marks, all on other cells than the count's.
     commits_with_marks: u64,
-    /// Code 15 because the count itself is marked, and commits after that.
-    marked_counts: u64,
+    /// Those after code 15, with the count written anew.
     repaired: u64,
+    /// Code 15 where the count that levelling wrote is among the marked cells.
+    marked_counts: u64,
     /// Areas that have no other fault than an update lost.
-    lost: u64,
+    pub lost: u64,
 }
 
 impl WearTally {
@@ -97,22 +98,17 @@ impl WearTally {
         self.unusable_with_fewer += u64::from(fewer);
     }
 
-    /// A transaction that levelled has committed, with marks or not, after code
-    /// 15 or not.
+    /// A transaction that levelled and wrote nothing else has committed, with
+    /// marks or not, after code 15 or not.
     pub fn note_commit(&mut self, marked: bool, repaired: bool) {
         self.commits += 1;
         self.commits_with_marks += u64::from(marked);
         self.repaired += u64::from(repaired);
     }
 
-    /// A transaction that levelled may not ignore its marks.
+    /// A transaction that levelled may not ignore the mark on its count.
     pub fn note_marked_count(&mut self) {
         self.marked_counts += 1;
-    }
-
-    /// Notes an area that was made to lose an update, if it has no other fault.
-    pub fn note_lost(&mut self, faults: &[&str]) {
-        self.lost += u64::from(*faults == [NO_UPDATE_LOST]);
     }
 
     pub(super) fn counts(&self) -> Vec<Count> {
@@ -126,7 +122,7 @@ impl WearTally {
             counts.push((format!("wear code 32 for this alone: {reason}"), count, least));
         }
         let named = [
-            ("wear code 14 at the place with fewest of them", rarest(&self.held_reads), 15),
+            ("wear code 14 at the place with fewest of them", rarest(&self.held_reads), 10),
             ("wear code 10 at the place with fewest of them", rarest(&self.newer_reads), 2),
             ("wear code 33 at the place with fewest of them", rarest(&self.negatives), 6),
             ("wear code 33 for a group that is not usable", self.negatives_of_unusable, 80),
@@ -135,11 +131,11 @@ impl WearTally {
             ("picks of the group with fewest of them", rarest(&self.picks), 20),
             ("picks on a tie", self.ties, 400),
             ("picks beside an unusable group with fewer erases", self.unusable_with_fewer, 250),
-            ("commits of tasks that levelled", self.commits, 200),
-            ("commits of tasks that levelled, marks ignored", self.commits_with_marks, 5),
-            ("code 15 of tasks that levelled", self.marked_counts, 30),
-            ("code 15 of tasks that levelled, repaired", self.repaired, 4),
-            ("wear code 1 for this alone: an update is lost", self.lost, 300),
+            ("commits of tasks that levelled alone", self.commits, 250),
+            ("commits of tasks that levelled alone, marks ignored", self.commits_with_marks, 8),
+            ("commits of tasks that levelled alone, repaired after 15", self.repaired, 6),
+            ("code 15 of tasks that levelled, the count is marked", self.marked_counts, 35),
+            ("wear code 1 for this alone: an update is lost", self.lost, 500),
         ];
         counts.extend(named.map(|(name, count, least)| (name.to_string(), count, least)));
         counts

@@ -69,9 +69,10 @@ fn logs_are_good(slot: &SlotBytes, cells: &[CellBytes]) -> bool {
         4 => slot[IGNORING] == u8::from(some_mark),
         _ => slot[IGNORING] == 0 && !some_mark,
     };
+    // Only slots with the flag pay for the question whether an update is lost.
     flag_is_good
         && writes_are_good(writes, cells)
-        && (slot[IGNORING] == 0 || no_update_lost(reads, writes))
+        && (slot[IGNORING] == 0 || marked_cells(reads) & written_cells(writes) == 0)
         && all_zero(unused_reads.as_flattened())
         && all_zero(unused_writes.as_flattened())
 }
@@ -102,13 +103,15 @@ fn writes_are_good(writes: &[WriteBytes], cells: &[CellBytes]) -> bool {
     })
 }
 
-/// No marked cell is written. The check asks it of slots with the flag alone, so
-/// that no other slot pays for it, and of entries that are good: their cells are
-/// below 64, so a word has a bit for each.
-pub fn no_update_lost(reads: &[ReadBytes], writes: &[WriteBytes]) -> bool {
-    let marked = reads.iter().fold(0, |cells, read| cells | u64::from(read[MARK]) << read[0]);
-    let written = writes.iter().fold(0, |cells, write| cells | 1 << write[0]);
-    marked & written == 0
+/// A bit for each cell whose entry is marked. The entries are good, so that
+/// their cells are below 64.
+pub fn marked_cells(reads: &[ReadBytes]) -> u64 {
+    reads.iter().fold(0, |cells, read| cells | u64::from(read[MARK]) << read[0])
+}
+
+/// A bit for each cell of the entries, which are good, too.
+pub fn written_cells(writes: &[WriteBytes]) -> u64 {
+    writes.iter().fold(0, |cells, write| cells | 1 << write[0])
 }
 
 /// Every byte is looked at, which is quicker than to stop at the first that

@@ -1,6 +1,6 @@
 //! The fourteen steps on the bytes of a well-formed area.
 
-use super::check::{held, no_update_lost};
+use super::check::{held, marked_cells, written_cells};
 use super::view::*;
 use crate::call::{Call, Refusal, Reply, Step};
 use crate::machine::Transaction;
@@ -145,10 +145,11 @@ impl Turn<'_> {
     }
 
     fn ignore(self) -> Outcome {
-        if !no_update_lost(self.reads(), self.writes()) {
+        let marked = marked_cells(self.reads());
+        if marked & written_cells(self.writes()) != 0 {
             return Err(Refusal::MarkedWritten);
         }
-        self.own[IGNORING] = self.some_mark().into();
+        self.own[IGNORING] = u8::from(marked != 0);
         DONE
     }
 

@@ -44,6 +44,18 @@ fn what_is_right_passes() {
     assert!(lines.contains(&"compare: 15 examples".to_string()), "{lines:?}");
 }
 
+/// No code 15 is among these, which is no fault of the program.
+#[test]
+fn few_sheets_are_not_judged_by_what_they_reach() {
+    let right = stand_in("right");
+    let output = run_compare(&[&right.to_string_lossy(), EXAMPLES, "sheets=20", "seed=5"]);
+    let lines = lines(&output.stdout);
+    assert!(lines.iter().any(|line| line.split_whitespace().eq(["0", "code", "15"])), "{lines:?}");
+    let told = "compare: 20 random sheets are too few to judge what they have reached";
+    assert!(lines.iter().any(|line| line == told), "{lines:?}");
+    assert_eq!(output.status.code(), Some(0), "{lines:?}");
+}
+
 #[test]
 fn what_is_wrong_fails_and_the_sheet_is_kept() {
     let keep = format!("{}/kept.sheet", env!("CARGO_TARGET_TMPDIR"));

@@ -110,15 +110,16 @@ pub const IGNORED: [&str; 12] = [
 ];
 
 /// Those that damaged areas and tasks that level are needed for, too.
-const IGNORED_BY_SORT: [&str; 9] = [
+const IGNORED_BY_SORT: [&str; 10] = [
     "an update lost, in twilight:",
     "an update lost, in publishing:",
     "an update lost, in publishing, the cell is published already:",
     "the flag set, 16 marked reads and 16 writes:",
     "broken alone: the flag is 1 only if no marked cell",
-    "commits of tasks that levelled, marks ignored:",
-    "code 15 of tasks that levelled:",
-    "code 15 of tasks that levelled, repaired:",
+    "broken alone: in phase 4 a mark requires the flag:",
+    "commits of tasks that levelled alone, marks ignored:",
+    "code 15 of tasks that levelled, the count is marked:",
+    "commits of tasks that levelled alone, repaired after 15:",
     "wear code 1 for this alone: an update is lost:",
 ];
 

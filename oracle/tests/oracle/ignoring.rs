@@ -6,6 +6,7 @@ use oracle::{faults, step_in_place, step_on_bytes, Call, Value};
 
 use crate::bench::{held_by_another, refused, whole, Bench, DONE, FALSE, TRUE};
 use crate::peek::Peek;
+use crate::sentences::NO_UPDATE_LOST;
 
 /// Slot 1 in twilight after these reads and writes. Slot 2 has published the
 /// stale cells in between, each with its number and 50 more.
@@ -179,10 +180,7 @@ fn an_area_with_the_flag_on_a_written_cell_is_not_well_formed() {
         let mut area = bench.bytes.clone();
         let (flag, mark) = (bench.peek().slot_at(1) + 1, bench.peek().read_at(1, entry) + 1);
         (area[flag], area[mark]) = (1, 1);
-        assert_eq!(
-            faults(&area),
-            ["the flag is 1 only if no marked cell is also in the write log"]
-        );
+        assert_eq!(faults(&area), [NO_UPDATE_LOST]);
         let before = area.clone();
         for step in 0..=15 {
             assert_eq!(step_on_bytes(&mut area, step, 1, 0, 2, 0), 1 << 40);

@@ -169,6 +169,9 @@ fn examples_of_phases() -> Vec<Example> {
     ]
 }
 
+/// The sentence of request #103.
+pub const NO_UPDATE_LOST: &str = "the flag is 1 only if no marked cell is also in the write log";
+
 /// Slot 1 has the flag on its mark of cell 2, and cells 0 and 1 in both logs, of
 /// which cell 0 is published already.
 fn ignoring_and_publishing() -> Vec<u8> {
@@ -181,7 +184,6 @@ fn ignoring_and_publishing() -> Vec<u8> {
 
 /// The flag, the mark, or the written cell makes it so.
 fn examples_of_lost_updates() -> Vec<Example> {
-    let lost = "the flag is 1 only if no marked cell is also in the write log";
     let with = |patches: &[(usize, u8)]| {
         let mut area = ignoring_and_publishing();
         patches.iter().for_each(|(at, byte)| area[*at] = *byte);
@@ -190,15 +192,15 @@ fn examples_of_lost_updates() -> Vec<Example> {
     let second = MARK + 6;
     let third = MARK + 12;
     vec![
-        (lost, patched(&MARKED, &[(slot(1, FLAG), 1)])),
-        (lost, patched(&MARKED, &[(slot(1, FLAG), 1), (slot(1, second), 0)])),
+        (NO_UPDATE_LOST, patched(&MARKED, &[(slot(1, FLAG), 1)])),
+        (NO_UPDATE_LOST, patched(&MARKED, &[(slot(1, FLAG), 1), (slot(1, second), 0)])),
         // Cell 0 is published, cell 1 is not.
-        (lost, with(&[(slot(1, MARK), 1)])),
-        (lost, with(&[(slot(1, second), 1)])),
-        (lost, with(&[(slot(1, MARK), 1), (slot(1, third), 0)])),
-        (lost, with(&[(slot(1, second), 1), (slot(1, third), 0)])),
+        (NO_UPDATE_LOST, with(&[(slot(1, MARK), 1)])),
+        (NO_UPDATE_LOST, with(&[(slot(1, second), 1)])),
+        (NO_UPDATE_LOST, with(&[(slot(1, MARK), 1), (slot(1, third), 0)])),
+        (NO_UPDATE_LOST, with(&[(slot(1, second), 1), (slot(1, third), 0)])),
         // The cell that is not published is cell 2 now, with its holder.
-        (lost, with(&[(slot(1, WRITES + 5), 2), (HOLDER + 14, 0), (HOLDER + 28, 1)])),
+        (NO_UPDATE_LOST, with(&[(slot(1, WRITES + 5), 2), (HOLDER + 14, 0), (HOLDER + 28, 1)])),
     ]
 }
 

@@ -70,6 +70,31 @@ fn before_the_request_the_totaliser_lost_an_increment() {
     assert_eq!(words, [103]);
 }
 
+/// Slots 1 and 2 both lose an update of slot 3, and are told of their marks as
+/// ever.
+#[test]
+fn before_the_request_one_loss_did_not_keep_another_from_being_made() {
+    let mut lines = vec!["cell whole 0", "cell whole 1", "begin 1", "read 1 0", "begin 2"];
+    lines.extend(["read 2 1", "write 1 0 whole 7", "write 2 1 whole 7", "begin 3"]);
+    lines.extend(["write 3 0 whole 8", "write 3 1 whole 8", "close 3", "lock 3", "lock 3"]);
+    lines.extend(["enter 3", "finish 3", "publish 3", "publish 3", "close 1", "close 2"]);
+    lines.extend(["lock 1", "lock 2", "enter 1", "enter 2", "ignore 1", "ignore 2", "ask 1 0"]);
+    lines.extend(["ask 2 1", "ignore 1", "finish 1", "finish 2", "publish 1", "publish 2"]);
+    let sheet = text::assemble(lines.join("\n").as_bytes()).expect("a good text");
+    let Run { mut area, .. } = Run::fresh(sheet.cells(), before_the_request);
+    for call in sheet.calls() {
+        let number = before_the_request(&mut area, *call);
+        let wanted = match call.step {
+            2 => (2 << 32) + u64::from(call.cell),
+            // Something is marked for both, and not for slot 3.
+            6 => (1 << 32) + u64::from(call.slot == 3),
+            9 => (1 << 32) + 1,
+            _ => 0,
+        };
+        assert_eq!(number, wanted, "{call:?}");
+    }
+}
+
 /// Runs of tasks that count up, brought to rest. Gives the faults of each run,
 /// the increments that are missing from its totals, and the commits with a cell
 /// in both logs, all of them and those that ignored marks.

@@ -42,9 +42,9 @@ pub const WRONG_IGNORES: [(&str, StepOnBytes); 24] = [
     }),
     ("the same place in both logs", |area, call| {
         judged(area, call, |peek, slot| {
-            let places = peek.read_cells(slot).into_iter().zip(peek.write_cells(slot));
+            let mut places = peek.read_cells(slot).into_iter().zip(peek.write_cells(slot));
             let marked = peek.marked_cells(slot);
-            places.into_iter().any(|(read, write)| read == write && marked.contains(&read))
+            places.any(|(read, write)| read == write && marked.contains(&read))
         })
     }),
     ("cells told apart by five bits", |area, call| {
@@ -186,7 +186,11 @@ fn judged(area: &mut [u8], call: Call, refuses: Judge) -> u64 {
     if refuses(&Peek(area), call.slot) {
         return 15 << 40;
     }
-    area[at + FLAG] = some_mark(&Peek(area), call.slot).into();
+    ignored(area, at, call.slot)
+}
+
+fn ignored(area: &mut [u8], at: usize, slot: u8) -> u64 {
+    area[at + FLAG] = some_mark(&Peek(area), slot).into();
     0
 }
 
@@ -232,14 +236,21 @@ pub fn without_the_clause(area: &mut [u8], call: Call) -> u64 {
 }
 
 /// Marks that are not seen are taken off, and the flag with the last of them.
-/// After the step they are put back, unless the slot has ended or reloaded.
+/// After the step they are put back, unless the slot has ended or reloaded. Ask
+/// and ignore are about the marks of their slot: there it is the flag alone,
+/// without which a mark is good in twilight.
 fn lenient(area: &mut [u8], call: Call, sees: Judge) -> u64 {
     if !loses_updates_alone(area) {
         return step(area, call);
     }
     let peek = Peek(area);
     let unseen = (1..=8).filter(|slot| peek.flag(*slot) == 1 && !sees(&peek, *slot));
-    let hidden: Vec<(u8, usize)> = unseen.flat_map(|slot| lost_marks(&peek, slot)).collect();
+    let looks_at_marks = |slot| slot == call.slot && [9, 11].contains(&call.step);
+    let hides = |slot| match looks_at_marks(slot) && peek.phase(slot) == 3 {
+        true => vec![(slot, peek.slot_at(slot) + FLAG)],
+        false => lost_marks(&peek, slot),
+    };
+    let hidden: Vec<(u8, usize)> = unseen.flat_map(hides).collect();
     hidden.iter().for_each(|(_, at)| area[*at] = 0);
     let number = step(area, call);
     for (slot, at) in hidden {
@@ -287,8 +298,8 @@ fn lost_marks(peek: &Peek, slot: u8) -> Vec<(u8, usize)> {
 
 /// Ignore and the check as they were before the request.
 pub fn before_the_request(area: &mut [u8], call: Call) -> u64 {
-    match entered(area, call) {
-        Some(_) => judged(area, call, |_, _| false),
+    match entered(&with_lost_marks_hidden(area), call) {
+        Some(at) => ignored(area, at, call.slot),
         None => without_the_clause(area, call),
     }
 }
