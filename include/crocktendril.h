@@ -140,9 +140,8 @@ extern "C" {
  * HELD_BY_ANOTHER and READ_HELD, which say who is in the way. ABORTED is no
  * refusal but an outcome, with kind and word 0.
  *
- * Of those that apply the lowest is given, with one exception: READ_HELD is
- * tested before READ_NEWER, and after LOG_FULL. MARKED_WRITTEN is tested next
- * after NOT_ALLOWED; no code that is tested later applies to IGNORE.
+ * Of those that apply the lowest is given; but READ_HELD is tested before
+ * READ_NEWER, after LOG_FULL, and MARKED_WRITTEN next after NOT_ALLOWED.
  *
  * WARNING: HELD_BY_ANOTHER and READ_HELD have kind WHOLE, and their word is
  * no cell's value. Look at the code before you take the word for a value.

@@ -96,7 +96,7 @@ extern "C" {
  * closed, locked, entered, finished and published.
  *
  * The erases cell of the picked group is then in both logs. If ENTER marks it,
- * IGNORE gets MARKED_WRITTEN: RELOAD, and if the same group would be picked of
+ * IGNORE gets MARKED_WRITTEN: RELOAD, and if the same group would be picked from
  * the reloaded values, UPDATE its count with the reloaded one plus one; else
  * give up and begin anew. Marks on other cells may be ignored. The count still
  * goes up by exactly one, but by then another group may be the least worn, or

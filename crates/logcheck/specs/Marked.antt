@@ -1,4 +1,4 @@
--- What "well formed" says of a slot's marks and its ignoring flag, and what the gathered marks tell of it.
+-- What "well formed" says of a slot's marks and its ignoring flag, but for the write log's part in it (`noUpdateLost`), and what the gathered marks tell of it.
 use mathlib.Core.Bool.{Bool, true}
 use mathlib.Core.List.{List}
 use mathlib.Core.Path.{_≡_}

@@ -60,7 +60,7 @@ readLog v = take (v .readcount) (v .reads)
 abbrev pub writeLog : SlotRecord → List WriteEntry
 writeLog v = take (v .writecount) (v .writes)
 
--- an entry of the read log is marked, and some marked cell is also in the write log
+-- of a record: an entry of its read log is marked; a marked cell is in its write log too
 abbrev pub hasMark : SlotRecord → Bool
 hasMark v = someMarked (readLog v)
 

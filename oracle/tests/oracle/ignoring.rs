@@ -142,7 +142,7 @@ fn one_marked_and_written_cell_is_enough_wherever_it_stands() {
 /// A held cell is marked as a newer one is, but who writes it can't enter
 /// before it is free. So the one that is marked by a hold is only read.
 #[test]
-fn marks_by_a_hold_may_be_ignored_and_those_by_a_stamp_not() {
+fn a_mark_by_a_hold_may_be_ignored() {
     let mut bench = Bench::of_wholes(3);
     bench.make_all(&["begin 1", "read 1 0", "read 1 1", "write 1 0 whole 7"]);
     bench.hold(2, &[1]);
