@@ -1,6 +1,6 @@
 -- Parts gathered one after the other: where all fit, the buffer holds them from its start on, and the end is their length.
 use mathlib.Core.Bool.{true}
-use mathlib.Core.List.{List, [], _∷_, _++_, append-assoc, append-nil}
+use mathlib.Core.List.{List, [], _∷_, _++_, append-assoc, append-nil, flatten}
 use mathlib.Core.Path.{_≡_, refl, sym, _∙_, ap, subst}
 use Prim.Native.Nat.{ℕ, zero, suc, _+_, _*_, _≤_, _<_}
 use native.Mathlib.Numerals.{add-one}
@@ -17,7 +17,7 @@ use Rattle.line.specs.declared.Put.the-variants.{End, Short}
 use Rattle.line.specs.declared.Style.{Style}
 use Rattle.line.specs.Number.{baseOf, leastOf, numeral}
 use Rattle.line.proofs.Number.{digits-most}
-use Rattle.line.specs.Gather.{putAnswer, putBytes, Puts, endOf, Gathered, gathered, added, addedAll, Leaves}
+use Rattle.line.specs.Gather.{putAnswer, putBytes, Puts, endOf, Gathered, gathered, added, addedAll, addedParts, Leaves}
 
 -- the two ways of putting a part
 module _ (s : List ℕ) (at : ℕ) (part : List ℕ) where
@@ -34,14 +34,17 @@ pub leaves : {s part whole t : List ℕ} {at : ℕ} {p : Put} {r : ℕ} → Puts
 leaves {s} {at = at} puts same e =
     record { end = e ∙ ap (λ (q : Put). endOf q at) (puts .answer ∙ ap (putAnswer s at) same); bytes = puts .bytes ∙ ap (putBytes s at) same }
 
+-- what is gathered, by its two parts
+pub gathered-as : {g : Gathered} {at : ℕ} {s : List ℕ} → Leaves g at s → gathered at s ≡ g
+gathered-as h = λ i. record { end = h .end i; bytes = h .bytes i }
+
 -- one part more after those that a loop has gathered
 pub leaves-next : (f : ℕ → List ℕ) (g : Gathered) (k : ℕ) {s t part : List ℕ} {at : ℕ} {p : Put} {r : ℕ}
     → Leaves (addedAll k f g) at s → part ≡ f k → Puts s at part p t → r ≡ endOf p at → Leaves (addedAll (k + 1) f g) r t
 unfolding addedAll
 leaves-next f g k {s} {t} {at = at} {r = r} before same puts e =
-    let there : gathered at s ≡ addedAll k f g = λ i. record { end = before .end i; bytes = before .bytes i } in
     rw (add-one k)
-    (subst (λ (x : Gathered). Leaves (added x (f k)) r t) there (leaves puts same e))
+    (subst (λ (x : Gathered). Leaves (added x (f k)) r t) (gathered-as before) (leaves puts same e))
 
 -- the same part by another name
 pub puts-same : {s part whole t : List ℕ} {at : ℕ} {p : Put} → Puts s at part p t → part ≡ whole → Puts s at whole p t
@@ -76,6 +79,40 @@ front-all s parts (suc n) f h =
     ∙ front-added s (parts ++ cat n f) (f n) all
     ∙ ap (front s) (append-assoc parts (cat n f) (f n))
 
+-- the parts of a list, and then those of another
+pub added-both : (parts more : List (List ℕ)) (g : Gathered) → addedParts (parts ++ more) g ≡ addedParts more (addedParts parts g)
+unfolding addedParts
+added-both [] more g = refl
+added-both (part ∷ parts) more g = added-both parts more (added g part)
+
+-- what two functions gather, one after the other
+pub leaves-both : (parts more : List (List ℕ)) (g : Gathered) {at r : ℕ} {s t : List ℕ}
+    → Leaves (addedParts parts g) at s → Leaves (addedParts more (gathered at s)) r t → Leaves (addedParts (parts ++ more) g) r t
+leaves-both parts more g {r = r} {t = t} before then =
+    rw (added-both parts more g) (subst (λ (x : Gathered). Leaves (addedParts more x) r t) (gathered-as before) then)
+
+-- .. of which the second puts one part
+pub leaves-one : {s part t : List ℕ} {at : ℕ} {p : Put} {r : ℕ} → Puts s at part p t → r ≡ endOf p at → Leaves (addedParts (part ∷ []) (gathered at s)) r t
+unfolding addedParts
+leaves-one puts e = leaves puts refl e
+
+-- .. or nothing
+pub leaves-none : {s : List ℕ} {at : ℕ} → Leaves (addedParts [] (gathered at s)) at s
+unfolding addedParts
+leaves-none = record { end = refl; bytes = refl }
+
+-- the parts of a list that fit
+pub front-parts : (s begun : List ℕ) (parts : List (List ℕ)) → length (begun ++ flatten parts) ≤ length s
+    → addedParts parts (front s begun) ≡ front s (begun ++ flatten parts)
+unfolding addedParts flatten
+front-parts s begun [] h = rw append-nil
+front-parts s begun (part ∷ parts) h =
+    let all : length (begun ++ part ++ flatten parts) ≤ length s = rw append-assoc h in
+    let before : length (begun ++ part) ≤ length s = omega (arith, length-append (begun ++ part) (flatten parts)) in
+    ap (addedParts parts) (front-added s begun part before)
+    ∙ front-parts s (begun ++ part) parts all
+    ∙ ap (front s) (append-assoc begun part (flatten parts))
+
 -- what is gathered at the front is read back
 pub front-taken : (s parts : List ℕ) → length parts ≤ length s → take (length parts) (splice s 0 parts) ≡ parts
 front-taken s parts h = rw zero-add at (take-splice-part s 0 parts (omega arith))
@@ -92,9 +129,8 @@ pub held-next : (part : List ℕ) {k at r : ℕ} {z parts s t : List ℕ} → He
     → Leaves (added (gathered at s) part) r t → Held (k + 1) z (parts ++ part) r t
 held-next part {k} {at} {r} {z} {parts} {s} {t} held fits size next =
     let long : length (parts ++ part) ≤ 21 * (k + 1) = rw length-append (omega (arith, held .short)) in
-    let there : gathered at s ≡ front z parts = λ i. record { end = held .leaves .end i; bytes = held .leaves .bytes i } in
     let one : added (gathered at s) part ≡ front z (parts ++ part) =
-    ap (λ (g : Gathered). added g part) there ∙ front-added z parts part (omega arith) in
+    ap (λ (g : Gathered). added g part) (gathered-as (held .leaves)) ∙ front-added z parts part (omega arith) in
     record { short = long; leaves = record { end = next .end ∙ ap (λ (g : Gathered). g .end) one; bytes = next .bytes ∙ ap (λ (g : Gathered). g .bytes) one } }
 
 -- a number and the byte after it are at most 21 bytes

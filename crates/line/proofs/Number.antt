@@ -1,6 +1,6 @@
 -- A number's digits: they are taken off from the last one on, as the loop writes them, and are as few as the number needs.
 use mathlib.Core.Bool.{Bool, true, false, cond, false≢true}
-use mathlib.Core.List.{List, [], _∷_, _++_, append-assoc}
+use mathlib.Core.List.{List, [], _∷_, _++_, append-assoc, append-nil}
 use mathlib.Core.Path.{_≡_, refl, sym, _∙_}
 use Prim.Native.Nat.{ℕ, zero, suc, _-_, _/_, _%_, _^_, _≤_, _<_}
 use native.Mathlib.Nat.{pow-zero, pow-suc, div-lt-iff-lt-mul}
@@ -12,6 +12,7 @@ use lib.Seq.{length-take-le, set-at, drop-at, take-all, drop-cons, getD-set-same
 use Rattle.line.specs.declared.Style.{Style}
 use Rattle.line.specs.declared.Style.the-variants.{Decimal, Hex}
 use Rattle.line.specs.Number.{digit, digits, baseOf, numeral}
+use Rattle.line.specs.Line.{field}
 use Rattle.line.specs.Spelt.{digitsFor, Spelt}
 
 pub base-positive : (style : Style) → 1 ≤ baseOf style
@@ -100,3 +101,13 @@ spelt-field z e style n r after long spelt =
     set-at e 0 [] after 20 size ∙ rw (spelt .bytes) (append-assoc (take r z) d (after ∷ [])) in
     let count : length (d ++ (after ∷ [])) ≤ 21 - r = rw length-append (omega (arith, spelt .first)) in
     rw (text, drop-at (take r z) (d ++ (after ∷ [])) r (length-take-le r z begins), take-all (21 - r) (d ++ (after ∷ [])) count, long)
+
+-- a number spelt to the end of 20 bytes that stand behind one more, and a space before its first digit
+pub spelt-spaced : (z e : List ℕ) (n r : ℕ) → length z ≡ 20 → Spelt z Decimal n r e → take (21 - r) (drop r (set (0 ∷ (e ++ [])) r 32)) ≡ field n
+spelt-spaced z e n r long spelt =
+    let d = digitsFor z Decimal n in
+    let begins : r ≤ length z = omega (arith, spelt .first) in
+    let size : length e ≡ 20 = rw (spelt .bytes, length-append, length-take-le r z begins) (spelt .first ∙ long) in
+    let count : length (32 ∷ d) ≤ 21 - r = omega (arith, spelt .first) in
+    let rest : drop r e ≡ d = rw (spelt .bytes) (drop-at (take r z) d r (length-take-le r z begins)) in
+    rw (append-nil, back (0 ∷ e) r 32 (omega arith), rest, take-all (21 - r) (32 ∷ d) count, long)

@@ -1,6 +1,6 @@
 -- Parts put into a lent buffer one after the other. A part that does not fit leaves the buffer as it is.
 use mathlib.Core.Bool.{Bool, cond}
-use mathlib.Core.List.{List}
+use mathlib.Core.List.{List, [], _∷_}
 use mathlib.Core.Path.{_≡_}
 use Prim.Native.Nat.{ℕ, zero, suc, _+_}
 use lib.Dec.{leb}
@@ -45,6 +45,11 @@ added g part = gathered (endOf (putAnswer (g .bytes) (g .end) part) (g .end)) (p
 unfoldable pub addedAll : ℕ → (ℕ → List ℕ) → Gathered → Gathered
 addedAll zero f g = g
 addedAll (suc n) f g = added (addedAll n f g) (f n)
+
+-- with the parts of a list more, one after the other
+unfoldable pub addedParts : List (List ℕ) → Gathered → Gathered
+addedParts [] g = g
+addedParts (part ∷ parts) g = addedParts parts (added g part)
 
 -- a function that gathers answers the end r and leaves the bytes t
 pub record Leaves (g : Gathered) (r : ℕ) (t : List ℕ) : Type 0 where

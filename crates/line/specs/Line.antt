@@ -14,6 +14,10 @@ line [] = newline ∷ []
 line (field ∷ []) = field ++ (newline ∷ [])
 line (field ∷ next ∷ fields) = field ++ (space ∷ line (next ∷ fields))
 
+-- a number's field with the space before it
+abbrev pub field : ℕ → List ℕ
+field n = space ∷ decimal n
+
 -- `cell` and `clock` as bytes
 abbrev pub cellText : List ℕ
 cellText = 99 ∷ 101 ∷ 108 ∷ 108 ∷ []

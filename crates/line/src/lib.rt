@@ -6,7 +6,7 @@ ghost use Prim.Native.Nat.{_-_};
 ghost use lib.Dec.{eqb};
 ghost use lib.ListN.{take};
 ghost use Rattle.line.specs.Number.{digit as digitOf, baseOf, leastOf, numeral};
-ghost use Rattle.line.specs.Line.{answerLine, cellLine, clockLine};
+ghost use Rattle.line.specs.Line.{answerLine, cellLine, clockLine, field};
 ghost use Rattle.line.specs.Gather.{Puts, Leaves, endOf, gathered, added};
 ghost use Rattle.line.specs.Spelt.{Spelt};
 
@@ -28,7 +28,7 @@ const MOST: usize = 20;
 // In an answer the word stands below 2^32, the kind below 2^40 and the code above it.
 const KIND: u64 = 4294967296;
 
-const CODE: u64 = 1099511627776;
+pub const CODE: u64 = 1099511627776;
 
 const SPACE: u8 = 32;
 
@@ -149,6 +149,16 @@ fn add_number(s: &mut [u8], at: usize, style: Style, number: u64, after: u8) -> 
     let first = spell(&mut text[..MOST], style, number);
     text[MOST] = after;
     put_bytes(s, at, &text[first..]).end_or(at)
+}
+
+// Puts a field behind others: a space, and a number in decimal.
+pub fn put_field(s: &mut [u8], at: usize, number: u64) -> Put
+    ensures { λ r. ⌜ Puts (now (s .entry)) at (field number) r (now (s .exit)) ⌝ }
+{
+    let mut text = [0u8; 21];
+    let first = spell(&mut text[1..], Style::Decimal, number);
+    text[first] = SPACE;
+    put_bytes(s, at, &text[first..])
 }
 
 // Puts the line of a step: its place, and the code, the kind and the word of its answer.
