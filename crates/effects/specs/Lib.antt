@@ -1,0 +1,4 @@
+pub mod Effects
+pub mod Trace
+pub mod Agree
+pub mod Parts
