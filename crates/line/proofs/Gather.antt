@@ -34,6 +34,10 @@ pub leaves : {s part whole t : List ℕ} {at : ℕ} {p : Put} {r : ℕ} → Puts
 leaves {s} {at = at} puts same e =
     record { end = e ∙ ap (λ (q : Put). endOf q at) (puts .answer ∙ ap (putAnswer s at) same); bytes = puts .bytes ∙ ap (putBytes s at) same }
 
+-- what is gathered, by its two parts
+pub gathered-as : {g : Gathered} {at : ℕ} {s : List ℕ} → Leaves g at s → gathered at s ≡ g
+gathered-as h = λ i. record { end = h .end i; bytes = h .bytes i }
+
 -- one part more after those that a loop has gathered
 pub leaves-next : (f : ℕ → List ℕ) (g : Gathered) (k : ℕ) {s t part : List ℕ} {at : ℕ} {p : Put} {r : ℕ}
     → Leaves (addedAll k f g) at s → part ≡ f k → Puts s at part p t → r ≡ endOf p at → Leaves (addedAll (k + 1) f g) r t
