@@ -1,7 +1,6 @@
 pub mod Reading
 pub mod Steps
 pub mod State
-pub mod First
 pub mod Short
 pub mod Whole
 pub mod Within

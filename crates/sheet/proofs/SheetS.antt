@@ -8,8 +8,9 @@ use Rattle.rules.proofs.Open.{computed}
 use Rattle.line.specs.Number.{digit, digits}
 use Rattle.line.specs.Line.{replyLine, cellLine, clockLine}
 use Rattle.apart.specs.Apart.{wholeSheet, describedRight, stepsRight, goodSheet}
-use Rattle.sheet.specs.Output.{callOf}
-use Rattle.sheet.specs.States.{stateAfter, stateLine, endLines}
+use Rattle.stage.specs.Calls.{callOf}
+use Rattle.stage.specs.States.{stateAfter}
+use Rattle.sheet.specs.States.{stateLine, endLines}
 use Rattle.sheet.specs.SheetS.{sheetS, SheetS}
 use Rattle.sheet.proofs.States.{on-states}
 

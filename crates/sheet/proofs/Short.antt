@@ -2,43 +2,27 @@
 use mathlib.Core.Bool.{Bool, true, false, cond}
 use mathlib.Core.List.{List}
 use mathlib.Core.Path.{_≡_, refl}
-use Prim.Native.Nat.{ℕ, zero, suc, _+_, _*_, _%_, _^_, _<_, _≤_}
-use native.Mathlib.Nat.{mul-suc}
+use Prim.Native.Nat.{ℕ, _+_, _%_, _^_, _<_, _≤_}
 use native.Mathlib.Omega.{arith}
 use lib.ListN.{length, getD, drop, length-append}
 use Rattle.wire.specs.Field.{Bytes, be}
-use Rattle.wire.specs.Table.{cat}
 use Rattle.wire.proofs.Laws.Field.{be-bound, bytes-drop}
 use Rattle.call.specs.Answer.{replyCode, replyKind, replyWord, replyNumber}
 use Rattle.call.proofs.Answer.{code-bound, kind-bound}
-use Rattle.line.specs.declared.Style.{Style}
 use Rattle.line.specs.declared.Style.the-variants.{Decimal, Hex}
-use Rattle.line.specs.Number.{baseOf, leastOf, numeral}
 use Rattle.line.specs.Line.{replyLine, cellLine, clockLine}
-use Rattle.line.proofs.Number.{base-positive, digits-most, digits-few}
 use Rattle.rules.specs.Model.{controller, cellOffset}
 use Rattle.rules.specs.Layout.{countIn, cellOf, clockIn}
 use Rattle.rules.specs.Area.{stepOnBytes}
 use Rattle.crocktendril.specs.Contract.{Stepped}
 use Rattle.crocktendril.proofs.Demands.{demand1}
-use Rattle.sheet.specs.Output.{callAt, stepCount, areaAfter, endArea, stepLine, lineInArea, printed, firstArea, badSheet, output}
 use Rattle.apart.specs.Apart.{steps, goodSheet}
-use Rattle.sheet.specs.Whole.{LongIsBad}
 use Rattle.apart.proofs.Apart.{good-parts}
-
--- n lines of at most `size` bytes
-cat-short : (size n : ℕ) (f : ℕ → List ℕ) → ((i : ℕ) → i < n → length (f i) ≤ size) → length (cat n f) ≤ size * n
-unfolding cat
-cat-short size zero f h = omega arith
-cat-short size (suc n) f h =
-    rw (length-append, mul-suc) (omega (arith, cat-short size n f (λ i b. h i (omega arith)), h n (omega arith)))
-
--- a number below the base to the power k has at most k digits
-few : (style : Style) (k n : ℕ) → n < baseOf style ^ k → leastOf style ≤ k → length (numeral style n) ≤ k
-few style k n h least = digits-few (baseOf style) (base-positive style) k (leastOf style) 20 n h least
-
-most : (style : Style) (n : ℕ) → length (numeral style n) ≤ 20
-most style n = digits-most (baseOf style) (leastOf style) 20 n
+use Rattle.stage.specs.Calls.{callAt, stepCount, areaAfter, endArea}
+use Rattle.stage.specs.First.{firstArea, badSheet}
+use Rattle.stage.proofs.Short.{cat-short, few, most}
+use Rattle.sheet.specs.Output.{stepLine, lineInArea, printed, output}
+use Rattle.sheet.specs.Whole.{LongIsBad}
 
 reply-short : (place code kind word : ℕ) → place < 10 ^ 4 → code < 10 ^ 2 → kind < 10 ^ 1 → word < 16 ^ 8 → length (replyLine place code kind word) ≤ 19
 unfolding replyLine

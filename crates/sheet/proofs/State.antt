@@ -9,16 +9,12 @@ use Rattle.wire.specs.Field.{be}
 use Rattle.line.specs.declared.Put.{Put}
 use Rattle.line.specs.Line.{clockLine}
 use Rattle.line.specs.Gather.{Puts, endOf, Gathered, gathered, added, addedAll, Leaves}
-use Rattle.line.proofs.Gather.{leaves}
+use Rattle.line.proofs.Gather.{leaves, gathered-as}
 use Rattle.rules.specs.Model.{controller, cellOffset}
 use Rattle.rules.specs.Layout.{countIn}
 use Rattle.rules.specs.Area.{layOut}
 use Rattle.sheet.specs.Output.{lineInArea}
 use Rattle.sheet.specs.Parts.{stateAdded, StepsMade, PartsRun}
-
--- what is gathered, by its two parts
-pub gathered-as : {g : Gathered} {at : ℕ} {s : List ℕ} → Leaves g at s → gathered at s ≡ g
-gathered-as h = λ i. record { end = h .end i; bytes = h .bytes i }
 
 -- an area that is too short for its cells gets no line
 pub too-short : (a : List ℕ) (at : ℕ) (out : List ℕ) → length a < 14 + 14 * countIn a → Leaves (stateAdded a (gathered at out)) at out

@@ -1,57 +1,43 @@
--- The run on bytes is the run on states: a step on the area of a state is the step on the state.
+-- The run on bytes is the run on states: its lines are those of the states.
 use mathlib.Core.Bool.{true}
 use mathlib.Core.List.{List, _++_, append-assoc}
-use mathlib.Core.Path.{_≡_, refl, sym, ap, _∙_}
-use Prim.Native.Nat.{ℕ, zero, suc, _+_, _<_}
+use mathlib.Core.Path.{_≡_, sym, ap, _∙_}
+use Prim.Native.Nat.{ℕ, _+_, _<_}
 use lib.ListN.{length, getD, drop}
 use Rattle.wire.specs.Table.{cat}
 use Rattle.wire.proofs.Laws.Table.{cat-ext, length-tab, getD-tab}
 use Rattle.rules.specs.Model.{controller, cellOffset}
 use Rattle.rules.specs.State.{State, noCell, cellCount, cellAt}
 use Rattle.rules.specs.StateRight.{stateRight}
-use Rattle.rules.specs.Outcome.{replyOf, after}
-use Rattle.rules.specs.Step.{Call, step}
 use Rattle.rules.specs.Layout.{pack, cellOf, countIn, clockIn, cellsIn, stateOf}
-use Rattle.rules.specs.Area.{Answered, stepOnBytes}
-use Rattle.rules.proofs.Controller.{controller-fits}
-use Rattle.rules.proofs.RoundTrip.{state-back}
-use Rattle.history.proofs.Keeps.{keeps}
-use Rattle.history.proofs.Keeps.OnBytes.{stepped-packed}
+use Rattle.rules.specs.Area.{stepOnBytes}
 use Rattle.line.specs.Line.{clockLine}
 use Rattle.apart.specs.Apart.{steps}
-use Rattle.sheet.specs.Output.{callAt, stepCount, areaAfter, lineOf, stepLine, lineOfCell, lineInArea, printed, output}
-use Rattle.sheet.specs.States.{stateAfter, stateLine, endLines, stateLines, OnStates}
 use Rattle.apart.proofs.Apart.{good-parts}
-use Rattle.sheet.proofs.First.{first-packed, first-right}
-
--- one step
-module _ (S : State) (right : stateRight controller S ≡ true) (call : Call) where
-  step-bytes : stepOnBytes controller (pack controller S) call .bytes ≡ pack controller (after S (step controller S call))
-  step-bytes = ap (λ (x : Answered). x .bytes) (stepped-packed controller controller-fits S call right)
-
-  step-reply : stepOnBytes controller (pack controller S) call .reply ≡ replyOf (step controller S call)
-  step-reply = ap (λ (x : Answered). x .reply) (stepped-packed controller controller-fits S call right)
+use Rattle.stage.specs.Calls.{callAt, stepCount}
+use Rattle.stage.specs.States.{stateAfter}
+use Rattle.stage.proofs.First.{first-packed, first-right}
+use Rattle.stage.proofs.States.{step-reply, back, state-right, area-of}
+use Rattle.sheet.specs.Output.{lineOf, stepLine, lineOfCell, lineInArea, printed, output}
+use Rattle.sheet.specs.States.{stateLine, endLines, stateLines, OnStates}
 
 -- the lines of a state at its end
 module _ (T : State) (right : stateRight controller T ≡ true) where
-  back : stateOf controller (pack controller T) ≡ T
-  back = state-back controller controller-fits T right
-
   count : countIn (pack controller T) ≡ cellCount T
   unfolding stateOf cellsIn
   count =
       sym (length-tab (countIn (pack controller T)) (λ c. cellOf 8 (drop (cellOffset controller c) (pack controller T))))
-      ∙ ap (λ (S : State). length (S .cells)) back
+      ∙ ap (λ (S : State). length (S .cells)) (back T right)
 
   cell : (c : ℕ) → c < countIn (pack controller T) → cellOf 8 (drop (cellOffset controller c) (pack controller T)) ≡ cellAt T c
   unfolding stateOf cellsIn
   cell c h =
       sym (getD-tab (countIn (pack controller T)) (λ k. cellOf 8 (drop (cellOffset controller k) (pack controller T))) noCell c h)
-      ∙ ap (λ (S : State). getD (S .cells) c noCell) back
+      ∙ ap (λ (S : State). getD (S .cells) c noCell) (back T right)
 
   clock : clockIn controller (pack controller T) ≡ T .clock
   unfolding stateOf
-  clock = ap (λ (S : State). S .clock) back
+  clock = ap (λ (S : State). S .clock) (back T right)
 
   end-same : cat (countIn (pack controller T)) (lineInArea (pack controller T)) ++ clockLine (clockIn controller (pack controller T)) ≡ endLines T
   unfolding endLines lineInArea
@@ -61,22 +47,11 @@ module _ (T : State) (right : stateRight controller T ≡ true) where
       (λ i. cells i ++ clockLine (clock i)) ∙ ap (λ (n : ℕ). cat n (λ c. lineOfCell c (cellAt T c)) ++ clockLine (T .clock)) count
 
 module _ (S : State) (right : stateRight controller S ≡ true) (l : List ℕ) where
-  state-right : (k : ℕ) → stateRight controller (stateAfter S l k) ≡ true
-  unfolding stateAfter
-  state-right zero = right
-  state-right (suc k) = keeps controller controller-fits .stateKept (stateAfter S l k) (callAt l k) (state-right k)
-
-  area-of : (k : ℕ) → areaAfter (pack controller S) l k ≡ pack controller (stateAfter S l k)
-  unfolding areaAfter stateAfter
-  area-of zero = refl
-  area-of (suc k) =
-      ap (λ (x : List ℕ). stepOnBytes controller x (callAt l k) .bytes) (area-of k) ∙ step-bytes (stateAfter S l k) (state-right k) (callAt l k)
-
   line-same : (k : ℕ) → stepLine (pack controller S) l k ≡ stateLine S l k
   unfolding stepLine stateLine
   line-same k =
-      ap (λ (x : List ℕ). lineOf (k + 1) (stepOnBytes controller x (callAt l k) .reply)) (area-of k)
-      ∙ ap (lineOf (k + 1)) (step-reply (stateAfter S l k) (state-right k) (callAt l k))
+      ap (λ (x : List ℕ). lineOf (k + 1) (stepOnBytes controller x (callAt l k) .reply)) (area-of S right l k)
+      ∙ ap (lineOf (k + 1)) (step-reply (stateAfter S l k) (state-right S right l k) (callAt l k))
 
   printed-same : printed (pack controller S) l ≡ stateLines S l
   unfolding printed
@@ -86,9 +61,9 @@ module _ (S : State) (right : stateRight controller S ≡ true) (l : List ℕ) w
       cat-ext n (stepLine (pack controller S) l) (stateLine S l) (λ k h. line-same k) in
       ap
       (λ (e : List ℕ). cat n (stepLine (pack controller S) l) ++ cat (countIn e) (lineInArea e) ++ clockLine (clockIn controller e))
-      (area-of n)
+      (area-of S right l n)
       ∙ append-assoc (cat n (stepLine (pack controller S) l)) (cat (countIn (pack controller (stateAfter S l n))) (lineInArea (pack controller (stateAfter S l n)))) (clockLine (clockIn controller (pack controller (stateAfter S l n))))
-      ∙ (λ i. lines i ++ end-same (stateAfter S l n) (state-right n) i)
+      ∙ (λ i. lines i ++ end-same (stateAfter S l n) (state-right S right l n) i)
 
 pub on-states : OnStates
 unfolding output

@@ -3,7 +3,7 @@ use mathlib.Core.List.{List}
 use mathlib.Core.Path.{_≡_}
 use Prim.Native.Nat.{ℕ}
 use Rattle.wire.proofs.Unique.{unique}
-use Rattle.sheet.specs.declared.Ran.{Ran}
+use Rattle.stage.specs.declared.Ran.{Ran}
 use Rattle.sheet.specs.Whole.{SheetRun}
 
 pub run-sheet-unique : (s a out : List ℕ) (r₁ r₂ : Ran) (a₁ a₂ t₁ t₂ : List ℕ) → SheetRun s a out r₁ a₁ t₁ → SheetRun s a out r₂ a₂ t₂

@@ -19,14 +19,16 @@ use Rattle.rules.specs.Model.{controller, cellOffset}
 use Rattle.rules.specs.Layout.{countIn, clockIn}
 use Rattle.rules.specs.Area.{layOut}
 use Rattle.area.proofs.Good.{good-of}
-use Rattle.sheet.specs.declared.Ran.the-variants.{Written, Short}
 use Rattle.apart.specs.Apart.{describedLength, stepsLength, firstStep, descriptions, steps, goodSheet}
-use Rattle.sheet.specs.Output.{stepCount, endArea, stepLine, lineInArea, printed, firstArea, badSheet, output}
-use Rattle.sheet.specs.Parts.{stepsAdded, stateAdded, PartsRun}
-use Rattle.sheet.specs.Whole.{mostArea, mostOutput, roomy, areaLeft, SheetRun}
 use Rattle.apart.proofs.Tests.{fails, goes-on}
 use Rattle.apart.proofs.Apart.{GoodParts}
-use Rattle.sheet.proofs.First.{Kept, kept-after, same-first, first-kept}
+use Rattle.stage.specs.declared.Ran.the-variants.{Written, Short}
+use Rattle.stage.specs.Calls.{stepCount, endArea}
+use Rattle.stage.specs.First.{firstArea, badSheet, mostArea}
+use Rattle.stage.proofs.First.{Kept, kept-after, same-first, first-kept}
+use Rattle.sheet.specs.Output.{stepLine, lineInArea, printed, output}
+use Rattle.sheet.specs.Parts.{stepsAdded, stateAdded, PartsRun}
+use Rattle.sheet.specs.Whole.{mostOutput, roomy, areaLeft, SheetRun}
 use Rattle.sheet.proofs.Short.{printed-short}
 
 -- all lines of a run, put at the front of a buffer that has room for them

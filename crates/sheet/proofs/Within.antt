@@ -6,8 +6,8 @@ use Prim.Native.Nat.{ℕ, _≤_}
 use native.Mathlib.Omega.{arith}
 use lib.ListN.{length, length-append}
 use Rattle.wire.specs.Part.{splice}
-use Rattle.sheet.specs.declared.Ran.{Ran}
-use Rattle.sheet.specs.declared.Ran.the-variants.{Written, Short}
+use Rattle.stage.specs.declared.Ran.{Ran}
+use Rattle.stage.specs.declared.Ran.the-variants.{Written, Short}
 use Rattle.sheet.specs.Output.{output}
 use Rattle.sheet.specs.Whole.{roomy, SheetRun}
 

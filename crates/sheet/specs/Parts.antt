@@ -10,7 +10,8 @@ use Rattle.line.specs.Line.{clockLine}
 use Rattle.rules.specs.Model.{controller, cellOffset}
 use Rattle.rules.specs.Layout.{countIn, clockIn}
 use Rattle.rules.specs.Area.{layOut}
-use Rattle.sheet.specs.Output.{stepCount, endArea, stepLine, lineInArea}
+use Rattle.stage.specs.Calls.{stepCount, endArea}
+use Rattle.sheet.specs.Output.{stepLine, lineInArea}
 
 -- the lines of the steps `l` on an area `a`
 abbrev pub stepsAdded : List ℕ → List ℕ → Gathered → Gathered

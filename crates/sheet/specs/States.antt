@@ -2,21 +2,18 @@
 use mathlib.Core.Bool.{true}
 use mathlib.Core.List.{List, _++_}
 use mathlib.Core.Path.{_≡_}
-use Prim.Native.Nat.{ℕ, zero, suc, _+_}
+use Prim.Native.Nat.{ℕ, _+_}
 use Rattle.wire.specs.Table.{cat}
 use Rattle.rules.specs.Model.{controller}
 use Rattle.rules.specs.State.{State, cellCount, cellAt}
-use Rattle.rules.specs.Outcome.{replyOf, after}
+use Rattle.rules.specs.Outcome.{replyOf}
 use Rattle.rules.specs.Step.{step}
 use Rattle.rules.specs.Area.{describedCells, fresh}
 use Rattle.line.specs.Line.{clockLine}
 use Rattle.apart.specs.Apart.{descriptions, steps, goodSheet}
-use Rattle.sheet.specs.Output.{callAt, stepCount, lineOf, lineOfCell, output}
-
--- the state after the first k steps
-unfoldable pub stateAfter : State → List ℕ → ℕ → State
-stateAfter S l zero = S
-stateAfter S l (suc k) = after (stateAfter S l k) (step controller (stateAfter S l k) (callAt l k))
+use Rattle.stage.specs.Calls.{callAt, stepCount}
+use Rattle.stage.specs.States.{stateAfter}
+use Rattle.sheet.specs.Output.{lineOf, lineOfCell, output}
 
 unfoldable pub stateLine : State → List ℕ → ℕ → List ℕ
 stateLine S l k = lineOf (k + 1) (replyOf (step controller (stateAfter S l k) (callAt l k)))

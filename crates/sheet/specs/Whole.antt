@@ -7,23 +7,17 @@ use lib.Dec.{leb}
 use lib.ListN.{length}
 use Rattle.wire.specs.Part.{splice}
 use Rattle.slot.specs.Logic.{_and_}
-use Rattle.rules.specs.Model.{controller, areaLength}
-use Rattle.rules.specs.Area.{descriptionSize}
-use Rattle.sheet.specs.declared.Ran.{Ran}
-use Rattle.sheet.specs.declared.Ran.the-variants.{Written, Short}
-use Rattle.apart.specs.Apart.{stepSize, mostSteps, steps, goodSheet}
-use Rattle.sheet.specs.Output.{endArea, firstArea, badSheet, output}
+use Rattle.rules.specs.Model.{controller}
+use Rattle.apart.specs.Apart.{mostSteps, steps, goodSheet}
+use Rattle.stage.specs.declared.Ran.{Ran}
+use Rattle.stage.specs.declared.Ran.the-variants.{Written, Short}
+use Rattle.stage.specs.Calls.{endArea}
+use Rattle.stage.specs.First.{firstArea, badSheet, mostSheet, mostArea}
+use Rattle.sheet.specs.Output.{output}
 
--- the longest good sheet: a program that reads more bytes than that, and no more, knows a longer one
-abbrev pub mostSheet : ℕ
-mostSheet = 5 + descriptionSize * controller .cells + stepSize * mostSteps
-
+-- a sheet that is longer than the longest good one is bad
 abbrev pub LongIsBad : Type 0
 LongIsBad = (s : List ℕ) → mostSheet < length s → output s ≡ badSheet
-
--- the longest area
-abbrev pub mostArea : ℕ
-mostArea = areaLength controller (controller .cells)
 
 -- room for the longest output: a step's line has at most 19 bytes, a cell's 46, the clock's 27
 abbrev pub mostOutput : ℕ

@@ -1,7 +1,5 @@
 // The run of a step sheet: lay out, make the steps in order, print. Any bytes are taken, and any buffers.
 ghost use Rattle.line.specs.Gather.{Leaves, gathered};
-ghost use Rattle.crocktendril.specs.Contract.{Stepped};
-ghost use Rattle.sheet.specs.Output.{callOf};
 ghost use Rattle.sheet.specs.Parts.{stateAdded, StepsMade, PartsRun};
 ghost use Rattle.sheet.specs.Whole.{SheetRun};
 use apart::Sheet;
@@ -9,35 +7,13 @@ use area::CELL;
 use area::CLOCK;
 use area::COUNT;
 use area::HEADER;
-
-// How many bytes of output were written, or that the area or the buffer is too short.
-pub enum Ran {
-    Written(usize),
-    Short,
-}
+use stage::Ran;
 
 // The bytes of all slots of an area.
 const ALL_SLOTS: usize = area::SLOT * area::SLOTS;
 
-// The longest area, and room for the longest output: a step's line has at most 19 bytes, a cell's 46, the clock's 27.
-pub const MOST_AREA: usize = 2486;
-
+// Room for the longest output: a step's line has at most 19 bytes, a cell's 46, the clock's 27.
 pub const MOST_OUTPUT: usize = 80795;
-
-// Makes the step that a sheet's 8 bytes say.
-fn make_step(area: &mut [u8], step: &[u8]) -> u64
-    ensures { λ r. ⌜ Stepped (now (area .entry)) (callOf (now (step .entry))) r (now (area .exit)) ⌝ }
-{
-    let word = apart::word(step);
-    crocktendril::crocktendril_step(
-        area,
-        apart::byte(step, 0),
-        apart::byte(step, 1),
-        apart::byte(step, 2),
-        apart::byte(step, 3),
-        word,
-    )
-}
 
 // Makes all steps in order, and puts a line for each at the front of `out`. Answers where the lines end.
 fn make_steps(steps: &[u8], area: &mut [u8], out: &mut [u8]) -> usize
@@ -48,7 +24,7 @@ fn make_steps(steps: &[u8], area: &mut [u8], out: &mut [u8]) -> usize
     let mut k = 0;
     while k < n {
         let at = apart::STEP * k;
-        let answer = make_step(area, &steps[at..at + apart::STEP]);
+        let answer = stage::make_step(area, &steps[at..at + apart::STEP]);
         end = line::reply_line(out, end, (k + 1) as u64, answer).end_or(end);
         k += 1;
     }
@@ -91,7 +67,7 @@ fn run_parts(descriptions: &[u8], steps: &[u8], area: &mut [u8], out: &mut [u8])
 pub fn run_sheet(sheet: &[u8], area: &mut [u8], out: &mut [u8]) -> Ran
     ensures { λ r. ⌜ SheetRun (now (sheet .entry)) (now (area .entry)) (now (out .entry)) r (now (area .exit)) (now (out .exit)) ⌝ }
 {
-    if area.len() < MOST_AREA {
+    if area.len() < stage::MOST_AREA {
         return Ran::Short;
     }
     if out.len() < MOST_OUTPUT {

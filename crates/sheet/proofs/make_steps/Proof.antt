@@ -5,8 +5,10 @@ use native.Mathlib.Omega.{arith}
 use lib.ListN.{length}
 use Rattle.line.specs.Gather.{gathered, addedAll, Leaves}
 use Rattle.line.proofs.Gather.{leaves-next}
-use Rattle.sheet.specs.Output.{areaAfter, stepLine}
-use Rattle.sheet.proofs.Steps.{step-at, next-area, next-line}
+use Rattle.stage.specs.Calls.{areaAfter}
+use Rattle.stage.proofs.Steps.{step-at, next-area}
+use Rattle.sheet.specs.Output.{stepLine}
+use Rattle.sheet.proofs.Steps.{next-line}
 use Rattle.sheet.proofs.make_steps.Statement.{statement}
 use Rattle.sheet.proofs.make_steps.Tie as tie
 

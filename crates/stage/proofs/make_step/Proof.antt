@@ -1,8 +1,8 @@
 -- `make_step` meets its contract: the bytes are read where the definition reads them.
-use Rattle.sheet.specs.Output.{callOf}
+use Rattle.stage.specs.Calls.{callOf}
 use borrow.Author.Needs.{needs}
-use Rattle.sheet.proofs.make_step.Statement.{statement}
-use Rattle.sheet.proofs.make_step.Tie as tie
+use Rattle.stage.proofs.make_step.Statement.{statement}
+use Rattle.stage.proofs.make_step.Tie as tie
 
 word-requires : tie.Need-word-requires
 word-requires c κs = search needs

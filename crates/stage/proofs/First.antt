@@ -21,8 +21,9 @@ use Rattle.rules.proofs.RoundTrip.{pack-right, round-trip}
 use Rattle.history.proofs.Keeps.{keeps}
 use Rattle.fresh.specs.Parts.{describedLegal}
 use Rattle.apart.specs.Apart.{describedLength, descriptions, goodSheet}
-use Rattle.sheet.specs.Output.{callAt, areaAfter, blank, firstArea}
 use Rattle.apart.proofs.Apart.{GoodParts}
+use Rattle.stage.specs.Calls.{callAt, areaAfter}
+use Rattle.stage.specs.First.{blank, firstArea}
 
 -- an area as a step leaves it
 pub record Kept (a : List ℕ) : Type 0 where

@@ -1,0 +1,4 @@
+pub mod Calls
+pub mod First
+pub mod SetUp
+pub mod States
