@@ -1,71 +1,86 @@
+-- `put_cells` meets its contract: before each turn the first `i` cells of the log are put.
+use mathlib.Core.List.{[], _∷_, map}
+use mathlib.Core.Path.{_≡_, refl, _∙_}
+use Prim.Native.Nat.{_-_, _≤_}
+use native.Mathlib.Omega.{arith}
+use borrow.Author.Tests.{ltb-true, ltb-false}
+use lib.ListN.{length, take, getD, length-take, length-map}
+use Rattle.slot.specs.Layout.{noWrite}
+use Rattle.line.specs.Line.{field}
+use Rattle.line.specs.Gather.{gathered, addedParts, Leaves}
+use Rattle.line.proofs.Gather.{leaves-both, leaves-one, leaves-none}
+use Rattle.effects.specs.Effects.{cellsOf}
+use Rattle.effects.proofs.Fields.{cells-next, cells-all}
+use borrow.Author.Needs.{needs}
 use Rattle.effects.proofs.put_cells.Statement.{statement}
 use Rattle.effects.proofs.put_cells.Tie as tie
-use Rattle.effects.proofs.put_cells.Reads as reads
-use Rattle.effects.proofs.put_cells.Lts as lts
-use Rattle.line.proofs.Put.end_or.Reads as end-or-reads
-use Rattle.line.proofs.put_field.Reads as put-field-reads
 
 abbrev Inv-loop : tie.InvT-loop
-Inv-loop out₀ at n log end₀ i₀ out end i = ?
+Inv-loop out₀ at n log end₀ i₀ out end i =
+    (length log ≡ 16) × (length out ≡ length out₀) × (i ≤ 16) × Leaves (addedParts (map field (cellsOf (take i (take n log)))) (gathered at out₀)) end out
 
 abbrev μ-loop : tie.MeasureT-loop
-μ-loop out₀ at n log end₀ i₀ out end i = ?
+μ-loop out₀ at n log end₀ i₀ out end i = 16 - i
 
--- src/lib.rt:183:13
 cast-n : tie.Need-cast-n Inv-loop μ-loop
-cast-n c = ?
+cast-n c = search needs
 
--- src/lib.rt:187:5
 loop-holds : tie.Need-loop-holds Inv-loop μ-loop
-loop-holds c = ?
+loop-holds c =
+    let start = let c : tie.Start Inv-loop μ-loop = search in c in
+    (simp length-map at (start .good .1 .1 .0 .1 .1 .1 .1 .1 .1 .1 .1 .1 .1 .0 .1 .0 .1), refl, omega arith, leaves-none)
 
--- src/lib.rt:188:17
 mul-e : tie.Need-mul-e Inv-loop μ-loop
-mul-e c = ?
+mul-e c = omega arith
 
--- src/lib.rt:188:17
 array-copy-out-e : tie.Need-array-copy-out-e Inv-loop μ-loop
-array-copy-out-e c = ?
+array-copy-out-e c = omega arith
 
--- src/lib.rt:189:41
 cast-put-field : tie.Need-cast-put-field Inv-loop μ-loop
-cast-put-field c = ?
+cast-put-field c = search needs
 
--- src/lib.rt:189:15
 put-field-requires : tie.Need-put-field-requires Inv-loop μ-loop
-put-field-requires c κs = ?
+put-field-requires c κs = tt
 
--- src/lib.rt:189:9
 end-or-requires : tie.Need-end-or-requires Inv-loop μ-loop
-end-or-requires c κs = ?
+end-or-requires c κs = tt
 
--- src/lib.rt:190:9
 add-i : tie.Need-add-i Inv-loop μ-loop
-add-i c = ?
+add-i c = omega arith
 
--- src/lib.rt:187:5
 loop-less : tie.Need-loop-less Inv-loop μ-loop
-loop-less c = ?
+loop-less c = omega arith
 
--- src/lib.rt:187:5
 loop-again : tie.Need-loop-again Inv-loop μ-loop
-loop-again c = ?
+loop-again c =
+    let args = let c : tie.Start Inv-loop μ-loop = search in c .args in
+    let loop = let c : tie.At-loop Inv-loop μ-loop = search in c .loop in
+    let put-field = let c : tie.After-put-field Inv-loop μ-loop = search in c .put-field in
+    let shorter = let c : tie.Then1 Inv-loop μ-loop = search in c .if1 .taken in (
+      loop .inv .0,
+      put-field .kept .0 ∙ loop .inv .1,
+      omega arith,
+      rw (cells-next (args .own .writes) (args .own .writecount) (loop .i) (ltb-true _ _ shorter) (omega arith))
+          (leaves-both _ (field (getD (args .own .writes) (loop .i) noWrite .cell) ∷ []) _ (loop .inv .3) (leaves-one (put-field .ensures) (c .end-or .ensures))),
+    )
 
--- src/lib.rt:180:1
 same-length : tie.Need-same-length Inv-loop μ-loop
-same-length c = ?
+same-length c = omega arith
 
--- src/lib.rt:180:1
 returns : tie.Need-returns Inv-loop μ-loop
-returns c = ?
+returns c =
+    let args = let c : tie.Start Inv-loop μ-loop = search in c .args in
+    let loop = let c : tie.At-loop Inv-loop μ-loop = search in c .loop in
+    rw (cells-all (args .own .writes) (args .own .writecount) (loop .i) (rw length-take (omega (arith, ltb-false)))) at (loop .inv .3)
 
--- src/lib.rt:180:1
 same-length-2 : tie.Need-same-length-2 Inv-loop μ-loop
-same-length-2 c = ?
+same-length-2 c = omega arith
 
--- src/lib.rt:180:1
 returns-2 : tie.Need-returns-2 Inv-loop μ-loop
-returns-2 c = ?
+returns-2 c =
+    let args = let c : tie.Start Inv-loop μ-loop = search in c .args in
+    let loop = c .before .loop in
+    rw (cells-all (args .own .writes) (args .own .writecount) (loop .i) (rw length-take (omega arith))) at (loop .inv .3)
 
 pub put-cells-spec : {M : Type 1} → statement M
 put-cells-spec =

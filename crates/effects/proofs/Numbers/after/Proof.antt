@@ -1,40 +1,32 @@
+-- `after` meets its contract: the ways out are no begin, a refused one, no such slot, no number left, and one more transaction.
+use Rattle.effects.proofs.Numbering.{no-begin, refused-begin, no-place, none-left, one-more}
 use borrow.Author.Needs.{needs}
 use Rattle.effects.proofs.Numbers.after.Statement.{statement}
 use Rattle.effects.proofs.Numbers.after.Tie as tie
-use Rattle.effects.proofs.Numbers.after.Reads as reads
-use Rattle.effects.proofs.Numbers.after.Lts as lts
 
--- src/lib.rt:74:13
 returns : tie.Need-returns
-returns c = ?
+returns c = search no-begin
 
--- src/lib.rt:77:13
 returns-2 : tie.Need-returns-2
-returns-2 c = ?
+returns-2 c = search refused-begin
 
--- src/lib.rt:81:13
 returns-3 : tie.Need-returns-3
-returns-3 c = ?
+returns-3 c = search no-place
 
--- src/lib.rt:84:13
 returns-4 : tie.Need-returns-4
-returns-4 c = ?
+returns-4 c = search none-left
 
--- src/lib.rt:86:9
 add-self : tie.Need-add-self
 add-self c = search needs
 
--- src/lib.rt:87:9
 mul-self : tie.Need-mul-self
 mul-self c = search needs
 
--- src/lib.rt:87:9
 element-write-self : tie.Need-element-write-self
 element-write-self c = search needs
 
--- src/lib.rt:70:5
 returns-5 : tie.Need-returns-5
-returns-5 c = ?
+returns-5 c = search one-more
 
 pub after-spec : {M : Type 1} → statement M
 after-spec =

@@ -1,0 +1,52 @@
+-- The parts of a line, as they are put.
+use mathlib.Core.List.{List, [], _∷_, _++_, map, map-append, append-nil}
+use mathlib.Core.Path.{_≡_, refl, ap, _∙_}
+use Prim.Native.Nat.{ℕ, suc, _+_, _<_, _≤_}
+use native.Mathlib.Numerals.{add-one}
+use native.Mathlib.Omega.{arith}
+use types.Run.{OneOf, miss}
+use denote.Enum.Declared.{tagOf}
+use lib.ListN.{length, take, getD, length-take}
+use lib.Seq.{take-suc, take-all, getD-take}
+use Rattle.slot.specs.Layout.{noWrite}
+use Rattle.slot.specs.declared.WriteEntry.{WriteEntry}
+use Rattle.slot.specs.declared.SlotRecord.{SlotRecord}
+use Rattle.line.specs.Line.{newline, field}
+use Rattle.effects.specs.declared.Shown.{Shown}
+use Rattle.effects.specs.declared.Shown.the-variants.{Begun, Read, Reloaded, Committed, Aborted, Nothing}
+use Rattle.effects.specs.Effects.{cellsOf}
+use Rattle.effects.specs.Parts.{wordParts, restParts, effectParts}
+use Rattle.effects.proofs.Shown.{the-type}
+
+-- one cell more of a log's first n entries
+module _ (log : List WriteEntry) (n i : ℕ) where
+  pub cells-next : i < n → i < length log
+      → map field (cellsOf (take (i + 1) (take n log))) ≡ map field (cellsOf (take i (take n log))) ++ (field (getD log i noWrite .cell) ∷ [])
+  cells-next h k =
+      let more : take (i + 1) (take n log) ≡ take i (take n log) ++ (getD log i noWrite ∷ []) =
+      rw (add-one i, ← getD-take n log i noWrite h) (take-suc (take n log) i noWrite (rw length-take (omega arith))) in
+      rw (more, map-append, map-append)
+
+  -- all of them
+  pub cells-all : length (take n log) ≤ i → map field (cellsOf (take i (take n log))) ≡ map field (cellsOf (take n log))
+  cells-all h = ap (λ (l : List WriteEntry). map field (cellsOf l)) (take-all i (take n log) h)
+
+-- neither a read nor a commit has more than its slot and its number
+pub no-rest : (shown : Shown) (cell : ℕ) (v : SlotRecord) → OneOf (0 ∷ 2 ∷ 3 ∷ 4 ∷ 5 ∷ []) (tagOf the-type shown)
+    → OneOf (0 ∷ 1 ∷ 2 ∷ 4 ∷ 5 ∷ []) (tagOf the-type shown) → restParts shown cell v ≡ []
+no-rest Begun cell v p q = refl
+no-rest Read cell v p q = absurd (miss (0 ∷ 2 ∷ 3 ∷ 4 ∷ 5 ∷ []) 1 tt p)
+no-rest Reloaded cell v p q = refl
+no-rest Committed cell v p q = absurd (miss (0 ∷ 1 ∷ 2 ∷ 4 ∷ 5 ∷ []) 3 tt q)
+no-rest Aborted cell v p q = refl
+no-rest Nothing cell v p q = refl
+
+-- the five parts of a line
+pub line-parts : (shown : Shown) (slot number cell : ℕ) (v : SlotRecord) → OneOf (0 ∷ 1 ∷ 2 ∷ 3 ∷ 4 ∷ []) (tagOf the-type shown)
+    → wordParts shown ++ (field slot ∷ []) ++ (field number ∷ []) ++ restParts shown cell v ++ ((newline ∷ []) ∷ []) ≡ effectParts shown slot number cell v
+line-parts Begun slot number cell v h = refl
+line-parts Read slot number cell v h = refl
+line-parts Reloaded slot number cell v h = refl
+line-parts Committed slot number cell v h = rw append-nil
+line-parts Aborted slot number cell v h = refl
+line-parts Nothing slot number cell v h = absurd (miss (0 ∷ 1 ∷ 2 ∷ 3 ∷ 4 ∷ []) 5 tt h)
