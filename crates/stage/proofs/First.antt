@@ -1,29 +1,31 @@
 -- The area of a good sheet: it is laid out whatever the lent bytes were, and is well formed after any number of steps.
-use mathlib.Core.Bool.{true}
+use mathlib.Core.Bool.{Bool, true, false}
 use mathlib.Core.List.{List}
-use mathlib.Core.Path.{_≡_, sym, _∙_}
-use Prim.Native.Nat.{ℕ, zero, suc, _+_, _*_}
+use mathlib.Core.Path.{_≡_, refl, sym, ap, _∙_}
+use Prim.Native.Nat.{ℕ, zero, suc, _+_, _*_, _<_}
 use native.Mathlib.Omega.{arith}
 use borrow.Author.Tests.{eq-eqb, le-leb}
 use lib.ListN.{length, drop, length-drop, length-replicate}
 use lib.Seq.{length-take-le}
 use Rattle.wire.specs.Field.{Bytes}
+use Rattle.wire.proofs.Laws.Table.{length-tab}
 use Rattle.slot.proofs.Logic.{and-intro, and-right}
 use Rattle.rules.specs.Model.{controller, areaLength}
 use Rattle.rules.specs.StateRight.{stateRight}
 use Rattle.rules.specs.LogsRight.{cellCountRight}
 use Rattle.rules.specs.Layout.{pack}
 use Rattle.rules.specs.AreaRight.{wellFormed}
-use Rattle.rules.specs.Area.{describedCount, describedCells, fresh, lengthsFit, layOut}
+use Rattle.rules.specs.Area.{describedCount, describedCell, describedCells, fresh, lengthsFit, layOut}
 use Rattle.rules.proofs.Controller.{controller-fits}
 use Rattle.rules.proofs.LaidOut.{laid-right, lays-out}
+use Rattle.rules.proofs.Places.{length-pack}
 use Rattle.rules.proofs.RoundTrip.{pack-right, round-trip}
 use Rattle.history.proofs.Keeps.{keeps}
 use Rattle.fresh.specs.Parts.{describedLegal}
 use Rattle.apart.specs.Apart.{describedLength, descriptions, goodSheet}
-use Rattle.apart.proofs.Apart.{GoodParts}
+use Rattle.apart.proofs.Apart.{GoodParts, good-parts}
 use Rattle.stage.specs.Calls.{callAt, areaAfter}
-use Rattle.stage.specs.First.{blank, firstArea}
+use Rattle.stage.specs.First.{blank, firstArea, mostSheet}
 
 -- an area as a step leaves it
 pub record Kept (a : List ℕ) : Type 0 where
@@ -39,6 +41,14 @@ kept-after a l h (suc k) =
       right = keeps controller controller-fits .areaKept (areaAfter a l k) (callAt l k) (before .bytes) (before .right);
       bytes = keeps controller controller-fits .bytesKept (areaAfter a l k) (callAt l k) (before .bytes) (before .right);
     }
+
+-- a good sheet has at most 33,093 bytes, so a longer one is bad
+pub long-bad : (s : List ℕ) → mostSheet < length s → goodSheet s ≡ false
+long-bad s h = by (goodSheet s) refl
+  where
+    by : (b : Bool) → goodSheet s ≡ b → goodSheet s ≡ false
+    by true p = let good = good-parts s p in absurd (omega arith)
+    by false p = p
 
 module _ {s : List ℕ} {cells first steps : ℕ} (good : GoodParts s cells first steps) where
   described-long : length (descriptions s) ≡ 5 * cells
@@ -66,6 +76,14 @@ module _ {s : List ℕ} {cells first steps : ℕ} (good : GoodParts s cells firs
 
   pub first-packed : firstArea s ≡ pack controller (fresh controller (describedCells (descriptions s)))
   first-packed = lays-out controller controller-fits .packed (blank s) (descriptions s) (accepted (blank s) zeros)
+
+  pub first-long : length (firstArea s) ≡ 1590 + 14 * cells
+  unfolding describedCells
+  first-long =
+      let ds = descriptions s in
+      let n : describedCount ds ≡ cells = omega (arith, described-long) in
+      let m : length (describedCells ds) ≡ describedCount ds = length-tab (describedCount ds) (λ i. describedCell (drop (5 * i) ds)) in
+      ap length first-packed ∙ length-pack controller (fresh controller (describedCells ds)) ∙ omega (arith, m, n)
 
   -- what was in the area does not matter
   pub same-first : (a : List ℕ) → length a ≡ 1590 + 14 * cells → layOut controller a (descriptions s) .bytes ≡ firstArea s

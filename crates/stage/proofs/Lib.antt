@@ -1,5 +1,8 @@
 pub mod Steps
-pub mod First
-pub mod Short
 pub mod States
+pub mod First
+pub mod Front
+pub mod Short
+pub mod Ways
+pub mod Ready
 pub mod Unique
