@@ -1,4 +1,6 @@
 -- `look` meets its contract: the slot is looked at where the definition says.
+use mathlib.Core.Path.{refl}
+use Rattle.effects.proofs.Looking.{none-looked, looked}
 use borrow.Author.Needs.{needs}
 use Rattle.effects.proofs.look.Statement.{statement}
 use Rattle.effects.proofs.look.Tie as tie
@@ -34,7 +36,13 @@ empty-requires : tie.Need-empty-requires
 empty-requires c κs = search needs
 
 returns : tie.Need-returns
-returns c = ?
+returns c =
+    let empty = c .empty .ensures in
+    let c : tie.Then1 = search in let short = c .if1 .taken in
+    let c : tie.After-index = search in let place = c .index .ensures in
+    let c : tie.After-byte = search in let count = c .byte .ensures in
+    let c : tie.Start = search in
+    none-looked (c .args .area .now) (c .args .slot) (c .args .cell) count place refl short empty
 
 find-write-requires : tie.Need-find-write-requires
 find-write-requires c κs = search needs
@@ -49,7 +57,16 @@ with-writes-requires : tie.Need-with-writes-requires
 with-writes-requires c κs = search needs
 
 returns-2 : tie.Need-returns-2
-returns-2 c = ?
+returns-2 c =
+    let own = c .with-writes .ensures in
+    let c : tie.After-in-either = search in let logged = c .in-either .ensures in
+    let c : tie.After-find-read = search in let read = c .find-read .ensures in
+    let c : tie.After-find-write = search in let written = c .find-write .ensures in
+    let c : tie.Else1 = search in let long = c .if1 .left in
+    let c : tie.After-index = search in let place = c .index .ensures in
+    let c : tie.After-byte = search in let count = c .byte .ensures in
+    let c : tie.Start = search in
+    looked (c .args .area .now) (c .args .slot) (c .args .cell) count place refl long written read logged own
 
 pub look-spec : {M : Type 1} → statement M
 look-spec =
