@@ -2,3 +2,4 @@ pub mod Effects
 pub mod Trace
 pub mod Agree
 pub mod Parts
+pub mod Steps

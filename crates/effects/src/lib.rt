@@ -3,6 +3,8 @@ ghost use mathlib.Core.Path.{_≡_};
 ghost use Prim.Native.Nat.{pred};
 ghost use lib.ListN.{getD};
 ghost use Rattle.line.specs.Gather.{Leaves, gathered, addedParts};
+ghost use Rattle.stage.specs.Calls.{callOf};
+ghost use Rattle.effects.specs.Steps.{StepTraced, StepsTraced};
 ghost use Rattle.effects.specs.Parts.{shownBy, readShown, inEither, lookedAt, noNumbers, numbersAfter, wordParts, cellParts, restParts, effectParts};
 use area::CELL;
 use area::COUNT;
@@ -33,6 +35,12 @@ pub struct Before {
 pub struct Numbers {
     pub begun: u64,
     pub last: [u64; Numbers::PLACES],
+}
+
+// The numbers after a step, and where the lines end.
+pub struct Traced {
+    pub numbers: Numbers,
+    pub end: usize,
 }
 
 // The step that begins a transaction, and the outcome that ends one without commit.
@@ -226,4 +234,40 @@ fn put_effect(
     let number_end = line::put_field(out, slot_end, number).end_or(slot_end);
     let end = put_rest(out, number_end, shown, cell, own);
     line::put_bytes(out, end, b"\n").end_or(end)
+}
+
+// Makes the step that 8 bytes say, and puts the line of its effect.
+fn trace_step(area: &mut [u8], step: &[u8], numbers: Numbers, out: &mut [u8], at: usize) -> Traced
+    ensures { λ r. ⌜ StepTraced (now (area .entry)) (callOf (now (step .entry))) numbers (now (out .entry)) at r (now (area .exit)) (now (out .exit)) ⌝ }
+{
+    let kind = apart::byte(step, 0);
+    let slot = apart::byte(step, 1);
+    let cell = apart::byte(step, 2);
+    let before = look(area, slot, cell);
+    let code = stage::make_step(area, step) / line::CODE;
+    let after = numbers.after(kind, slot, code);
+    let shown = shown_by(kind, code, before.logged);
+    let end = put_effect(out, at, shown, slot, after.of(slot), cell, before.own);
+    Traced {
+        numbers: after,
+        end,
+    }
+}
+
+// Makes all steps in order, and puts the lines of their effects at the front of `out`. Answers where the lines end.
+fn trace_steps(steps: &[u8], area: &mut [u8], out: &mut [u8]) -> usize
+    ensures { λ r. ⌜ StepsTraced (now (steps .entry)) (now (area .entry)) (now (out .entry)) r (now (area .exit)) (now (out .exit)) ⌝ }
+{
+    let n = steps.len() / apart::STEP;
+    let mut numbers = Numbers::none();
+    let mut end = 0;
+    let mut k = 0;
+    while k < n {
+        let at = apart::STEP * k;
+        let traced = trace_step(area, &steps[at..at + apart::STEP], numbers, out, end);
+        numbers = traced.numbers;
+        end = traced.end;
+        k += 1;
+    }
+    end
 }

@@ -1,0 +1,67 @@
+-- The steps of a sheet and the lines of their effects, one after the other.
+use mathlib.Core.List.{List, [], _∷_, _++_, append-assoc}
+use mathlib.Core.Path.{_≡_, refl, sym, ap, _∙_}
+use Prim.Native.Nat.{ℕ, _+_, _*_, _-_, _/_, _^_}
+use native.Mathlib.Numerals.{add-one}
+use native.Mathlib.Omega.{arith}
+use lib.ListN.{getD, take, drop}
+use Rattle.slot.specs.declared.SlotRecord.{SlotRecord}
+use Rattle.rules.specs.Model.{controller}
+use Rattle.rules.specs.Step.{Call}
+use Rattle.rules.specs.Area.{stepOnBytes}
+use Rattle.crocktendril.specs.Contract.{Stepped}
+use Rattle.crocktendril.proofs.Demands.{demand1}
+use Rattle.apart.specs.Apart.{byteAt}
+use Rattle.line.specs.Gather.{gathered, addedParts, Leaves}
+use Rattle.line.proofs.Gather.{leaves-both}
+use Rattle.stage.specs.Calls.{callOf, callAt, areaAfter}
+use Rattle.effects.specs.declared.Before.{Before}
+use Rattle.effects.specs.declared.Numbers.{Numbers}
+use Rattle.effects.specs.declared.Shown.{Shown}
+use Rattle.effects.specs.declared.Traced.{Traced}
+use Rattle.effects.specs.Effects.{Effect}
+use Rattle.effects.specs.Parts.{lookedAt, numbersAfter, shownBy, effectParts, partsOf}
+use Rattle.effects.specs.Steps.{numbersOn, effectOn, numbersAt, effectsUpTo, StepTraced}
+
+-- one step: what was looked at before it, and its code
+pub step-traced : (a step out : List ℕ) (v : Numbers) (at : ℕ) {kind slot cell r number end : ℕ} {before : Before} {after : Numbers} {shown : Shown} {b t : List ℕ}
+    → kind ≡ byteAt step 0 → slot ≡ byteAt step 1 → cell ≡ byteAt step 2 → before ≡ lookedAt a slot cell → Stepped a (callOf step) r b
+    → after ≡ numbersAfter v kind slot (r / 2 ^ 40) → shown ≡ shownBy kind (r / 2 ^ 40) (before .logged) → number ≡ getD (after .last) slot 0
+    → Leaves (addedParts (effectParts shown slot number cell (before .own)) (gathered at out)) end t
+    → StepTraced a (callOf step) v out at (record { numbers = after; end = end }) b t
+unfolding callOf effectOn
+step-traced a step out v at kind slot cell looked made counted shown number lines =
+    let code = demand1 .code a (callOf step) _ _ made in
+    record {
+      area = made .bytes;
+      numbers = rw (kind, slot, code) at counted;
+      lines = rw (number, shown, counted, looked, kind, slot, cell, code) at lines;
+    }
+
+-- the 8 bytes of step k stand at 8 × k
+pub traced-at : {x out : List ℕ} {v : Numbers} {at : ℕ} {r : Traced} {y t : List ℕ} (l : List ℕ) (k : ℕ)
+    → StepTraced x (callOf (take (8 * k + 8 - 8 * k) (drop (8 * k) l))) v out at r y t → StepTraced x (callAt l k) v out at r y t
+traced-at l k made = let size : 8 * k + 8 - 8 * k ≡ 8 = omega arith in rw size at made
+
+-- the parts of the lines of effects, and of more
+pub parts-both : (effects more : List Effect) → partsOf (effects ++ more) ≡ partsOf effects ++ partsOf more
+parts-both [] more = refl
+parts-both (x ∷ effects) more = rw (parts-both effects more, append-assoc)
+
+-- a turn of the loop
+module _ (a l out₀ : List ℕ) (k : ℕ) {x out : List ℕ} {v : Numbers} {at : ℕ} {r : Traced} {y t : List ℕ}
+    (here : x ≡ areaAfter a l k) (numbers : v ≡ numbersAt a l k) (made : StepTraced x (callAt l k) v out at r y t) where
+  pub area-next : y ≡ areaAfter a l (k + 1)
+  unfolding areaAfter
+  area-next = rw (add-one k) (made .area ∙ ap (λ (z : List ℕ). stepOnBytes controller z (callAt l k) .bytes) here)
+
+  pub numbers-next : r .numbers ≡ numbersAt a l (k + 1)
+  unfolding numbersAt
+  numbers-next = rw (add-one k) (made .numbers ∙ rw (here, numbers))
+
+  pub lines-next : Leaves (addedParts (partsOf (effectsUpTo a l k)) (gathered 0 out₀)) at out
+      → Leaves (addedParts (partsOf (effectsUpTo a l (k + 1))) (gathered 0 out₀)) (r .end) t
+  unfolding effectsUpTo numbersAt
+  lines-next before =
+      let then = rw (here, numbers) at (made .lines) in
+      rw (add-one k, parts-both) (leaves-both _ _ _ before then)
