@@ -1,5 +1,4 @@
 -- How long the lines of a run are at most.
-use mathlib.Core.Bool.{Bool, true, false, cond}
 use mathlib.Core.List.{List}
 use mathlib.Core.Path.{_≡_, refl}
 use Prim.Native.Nat.{ℕ, _+_, _%_, _^_, _<_, _≤_}
@@ -16,10 +15,8 @@ use Rattle.rules.specs.Layout.{countIn, cellOf, clockIn}
 use Rattle.rules.specs.Area.{stepOnBytes}
 use Rattle.crocktendril.specs.Contract.{Stepped}
 use Rattle.crocktendril.proofs.Demands.{demand1}
-use Rattle.apart.specs.Apart.{steps, goodSheet}
-use Rattle.apart.proofs.Apart.{good-parts}
 use Rattle.stage.specs.Calls.{callAt, stepCount, areaAfter, endArea}
-use Rattle.stage.specs.First.{firstArea, badSheet}
+use Rattle.stage.proofs.First.{long-bad}
 use Rattle.stage.proofs.Short.{cat-short, few, most}
 use Rattle.sheet.specs.Output.{stepLine, lineInArea, printed, output}
 use Rattle.sheet.specs.Whole.{LongIsBad}
@@ -75,11 +72,7 @@ printed-short a l steps bytes cells =
       clock-short (clockIn controller e),
     ))
 
--- a good sheet has at most 33,093 bytes, so a longer one is bad
+-- a sheet that is too long is bad
 pub long-is-bad : LongIsBad
 unfolding output
-long-is-bad s h = by (goodSheet s) (λ p. let g = good-parts s p in omega arith)
-  where
-    by : (b : Bool) → (b ≡ true → ⊥) → cond b (printed (firstArea s) (steps s)) badSheet ≡ badSheet
-    by true n = absurd (n refl)
-    by false n = refl
+long-is-bad s h = let bad = long-bad s h in rw bad

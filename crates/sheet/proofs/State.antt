@@ -1,4 +1,4 @@
--- The lines of an area's state, and the three parts of a run one after the other.
+-- The lines of an area's state, and the two parts of a run one after the other.
 use mathlib.Core.List.{List}
 use mathlib.Core.Path.{_≡_, ap, subst}
 use Prim.Native.Nat.{ℕ, _+_, _*_, _<_, _≤_}
@@ -12,9 +12,8 @@ use Rattle.line.specs.Gather.{Puts, endOf, Gathered, gathered, added, addedAll,
 use Rattle.line.proofs.Gather.{leaves, gathered-as}
 use Rattle.rules.specs.Model.{controller, cellOffset}
 use Rattle.rules.specs.Layout.{countIn}
-use Rattle.rules.specs.Area.{layOut}
 use Rattle.sheet.specs.Output.{lineInArea}
-use Rattle.sheet.specs.Parts.{stateAdded, StepsMade, PartsRun}
+use Rattle.sheet.specs.Parts.{stateAdded, StepsMade, StepsRun}
 
 -- an area that is too short for its cells gets no line
 pub too-short : (a : List ℕ) (at : ℕ) (out : List ℕ) → length a < 14 + 14 * countIn a → Leaves (stateAdded a (gathered at out)) at out
@@ -32,10 +31,6 @@ state-left a g {r = r} {t = t} h cells time puts e =
     rw test
     (subst (λ (x : Gathered). Leaves (added x (clockLine (be 8 (drop 6 a)))) r t) (gathered-as cells) (leaves puts (ap clockLine time) e))
 
-pub parts-run : {ds l a b c out s t : List ℕ} {end r : ℕ} → b ≡ layOut controller a ds .bytes → StepsMade l b out end c s
-    → Leaves (stateAdded c (gathered end s)) r t → PartsRun ds l a out r c t
-parts-run {l = l} {c = c} {out = out} {t = t} {r = r} laid steps state =
-    record {
-      area = rw laid at (steps .area);
-      lines = rw laid at (subst (λ (x : Gathered). Leaves (stateAdded c x) r t) (gathered-as (steps .lines)) state);
-    }
+pub steps-run : {l a c out s t : List ℕ} {end r : ℕ} → StepsMade l a out end c s → Leaves (stateAdded c (gathered end s)) r t → StepsRun l a out r c t
+steps-run {c = c} {t = t} {r = r} steps state =
+    record { area = steps .area; lines = subst (λ (x : Gathered). Leaves (stateAdded c x) r t) (gathered-as (steps .lines)) state }

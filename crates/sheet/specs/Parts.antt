@@ -9,7 +9,6 @@ use Rattle.line.specs.Gather.{Gathered, gathered, added, addedAll, Leaves}
 use Rattle.line.specs.Line.{clockLine}
 use Rattle.rules.specs.Model.{controller, cellOffset}
 use Rattle.rules.specs.Layout.{countIn, clockIn}
-use Rattle.rules.specs.Area.{layOut}
 use Rattle.stage.specs.Calls.{stepCount, endArea}
 use Rattle.sheet.specs.Output.{stepLine, lineInArea}
 
@@ -29,7 +28,7 @@ pub record StepsMade (l a out : List ℕ) (r : ℕ) (b t : List ℕ) : Type 0 wh
   pub area : b ≡ endArea a l
   pub lines : Leaves (stepsAdded a l (gathered 0 out)) r t
 
--- an area `a` laid out from `ds`, the steps `l` made on it, and all lines put into `out`
-pub record PartsRun (ds l a out : List ℕ) (r : ℕ) (b t : List ℕ) : Type 0 where
-  pub area : b ≡ endArea (layOut controller a ds .bytes) l
-  pub lines : Leaves (stateAdded b (stepsAdded (layOut controller a ds .bytes) l (gathered 0 out))) r t
+-- the steps `l` made on an area `a`, and all lines put into `out`
+pub record StepsRun (l a out : List ℕ) (r : ℕ) (b t : List ℕ) : Type 0 where
+  pub area : b ≡ endArea a l
+  pub lines : Leaves (stateAdded b (stepsAdded a l (gathered 0 out))) r t

@@ -1,16 +1,13 @@
 // The run of a step sheet: lay out, make the steps in order, print. Any bytes are taken, and any buffers.
 ghost use Rattle.line.specs.Gather.{Leaves, gathered};
-ghost use Rattle.sheet.specs.Parts.{stateAdded, StepsMade, PartsRun};
+ghost use Rattle.sheet.specs.Parts.{stateAdded, StepsMade, StepsRun};
 ghost use Rattle.sheet.specs.Whole.{SheetRun};
-use apart::Sheet;
 use area::CELL;
 use area::CLOCK;
 use area::COUNT;
 use area::HEADER;
 use stage::Ran;
-
-// The bytes of all slots of an area.
-const ALL_SLOTS: usize = area::SLOT * area::SLOTS;
+use stage::Stage;
 
 // Room for the longest output: a step's line has at most 19 bytes, a cell's 46, the clock's 27.
 pub const MOST_OUTPUT: usize = 80795;
@@ -54,11 +51,10 @@ fn put_state(area: &[u8], out: &mut [u8], at: usize) -> usize
     line::clock_line(out, end, wire::get(area, CLOCK, 8)).end_or(end)
 }
 
-// Runs a sheet whose parts are at hand. The lay-out's answer is not looked at: it is 0 for the parts of a good sheet.
-fn run_parts(descriptions: &[u8], steps: &[u8], area: &mut [u8], out: &mut [u8]) -> usize
-    ensures { λ r. ⌜ PartsRun (now (descriptions .entry)) (now (steps .entry)) (now (area .entry)) (now (out .entry)) r (now (area .exit)) (now (out .exit)) ⌝ }
+// Runs steps on an area that is laid out, and prints. Answers where the output ends.
+fn run_steps(steps: &[u8], area: &mut [u8], out: &mut [u8]) -> usize
+    ensures { λ r. ⌜ StepsRun (now (steps .entry)) (now (area .entry)) (now (out .entry)) r (now (area .exit)) (now (out .exit)) ⌝ }
 {
-    crocktendril::crocktendril_lay_out(area, descriptions);
     let end = make_steps(steps, area, out);
     put_state(area, out, end)
 }
@@ -67,28 +63,15 @@ fn run_parts(descriptions: &[u8], steps: &[u8], area: &mut [u8], out: &mut [u8])
 pub fn run_sheet(sheet: &[u8], area: &mut [u8], out: &mut [u8]) -> Ran
     ensures { λ r. ⌜ SheetRun (now (sheet .entry)) (now (area .entry)) (now (out .entry)) r (now (area .exit)) (now (out .exit)) ⌝ }
 {
-    if area.len() < stage::MOST_AREA {
-        return Ran::Short;
-    }
     if out.len() < MOST_OUTPUT {
         return Ran::Short;
     }
-    let apart = apart::take_apart(sheet);
-    let Sheet::Good {
-        cells,
-        first,
-        steps,
-    } = apart
-    else {
-        return Ran::Written(line::put_bytes(out, 0, b"bad sheet\n").end_or(0));
-    };
-    let described = apart::DESCRIPTIONS + fresh::DESCRIPTION * cells;
-    let stepped = first + apart::STEP * steps;
-    let length = HEADER + CELL * cells + ALL_SLOTS;
-    Ran::Written(run_parts(
-        &sheet[apart::DESCRIPTIONS..described],
-        &sheet[first..stepped],
-        &mut area[..length],
-        out,
-    ))
+    let stage = stage::set_up(sheet, area);
+    match stage {
+        Stage::Ready { length, first, end } => {
+            Ran::Written(run_steps(&sheet[first..end], &mut area[..length], out))
+        }
+        Stage::Bad => Ran::Written(stage::bad_sheet(out)),
+        Stage::Short => Ran::Short,
+    }
 }

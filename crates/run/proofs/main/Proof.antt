@@ -6,64 +6,50 @@ use borrow.Author.Needs.{needs}
 use Rattle.run.proofs.main.Statement.{statement}
 use Rattle.run.proofs.main.Tie as tie
 
--- src/main.rt:11:45
 slice-aggregate-read-full : tie.Need-slice-aggregate-read-full
 slice-aggregate-read-full c = search needs
 
--- src/main.rt:11:9
 read-full-requires : tie.Need-read-full-requires
 read-full-requires c κs = search needs
 
--- src/main.rt:14:32
 array-share-prefix-input : tie.Need-array-share-prefix-input
 array-share-prefix-input c = search needs
 
--- src/main.rt:14:32
 slice-aggregate-run-sheet : tie.Need-slice-aggregate-run-sheet
 slice-aggregate-run-sheet c = search needs
 
--- src/main.rt:14:49
 slice-aggregate-run-sheet-2 : tie.Need-slice-aggregate-run-sheet-2
 slice-aggregate-run-sheet-2 c = search needs
 
--- src/main.rt:14:60
 slice-aggregate-run-sheet-3 : tie.Need-slice-aggregate-run-sheet-3
 slice-aggregate-run-sheet-3 c = search needs
 
--- src/main.rt:14:9
 run-sheet-requires : tie.Need-run-sheet-requires
 run-sheet-requires c κs = search needs
 
--- src/main.rt:15:22
 enum-known-ran : tie.Need-enum-known-ran
 enum-known-ran c = search needs
 
--- src/main.rt:16:9
 enum-told : tie.Need-enum-told
 enum-told c = search needs
 
--- src/main.rt:16:9
 returns : tie.Need-returns
 returns c = search needs
 
--- src/main.rt:18:34
 array-share-prefix-out : tie.Need-array-share-prefix-out
 array-share-prefix-out c =
     let run-sheet = let c : tie.After-run-sheet = search in c .run-sheet in
     written-within (run-sheet .ensures) (c .before .ran .given .1)
 
--- src/main.rt:18:34
 slice-aggregate-write-all : tie.Need-slice-aggregate-write-all
 slice-aggregate-write-all c =
     let ran = let c : tie.After-ran = search in c .ran .given in
     let run-sheet = let c : tie.After-run-sheet = search in c .run-sheet in
     sym (length-take-le _ _ (written-within (run-sheet .ensures) (ran .1)))
 
--- src/main.rt:18:5
 write-all-requires : tie.Need-write-all-requires
 write-all-requires c κs = search needs
 
--- src/main.rt:9:1
 returns-2 : tie.Need-returns-2
 returns-2 c = search needs
 

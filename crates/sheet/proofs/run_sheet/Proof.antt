@@ -1,201 +1,121 @@
--- `run_sheet` meets its contract: the ways out are too little room, a bad sheet, and a good one, whose parts are where it says.
-use mathlib.Core.Path.{sym, _∙_}
+-- `run_sheet` meets its contract: the ways out are too little room, a bad sheet, and a good one, whose steps are run.
+use mathlib.Core.Path.{sym}
 use native.Mathlib.Omega.{arith}
 use lib.Seq.{length-take-le}
-use Rattle.apart.proofs.Apart.{apart-good, apart-bad}
-use Rattle.sheet.proofs.Whole.{short-area, short-out, bad-run, good-run}
+use Rattle.stage.proofs.Ready.{ReadySheet, when-ready, when-bad, when-short}
+use Rattle.sheet.proofs.Whole.{short-out, short-area, bad-run, good-run}
 use borrow.Author.Needs.{needs}
 use Rattle.sheet.proofs.run_sheet.Statement.{statement}
 use Rattle.sheet.proofs.run_sheet.Tie as tie
 
 returns : tie.Need-returns
-returns c = short-area _ _ _ (omega arith)
+returns c = short-out _ _ _ (omega arith)
 
-returns-2 : tie.Need-returns-2
-returns-2 c = short-out _ _ _ (omega arith) (omega arith)
+set-up-requires : tie.Need-set-up-requires
+set-up-requires c κs = search needs
 
-take-apart-requires : tie.Need-take-apart-requires
-take-apart-requires c κs = search needs
+enum-known-stage : tie.Need-enum-known-stage
+enum-known-stage c = search needs
 
-enum-known-apart : tie.Need-enum-known-apart
-enum-known-apart c = search needs
+-- what is known where the sheet is ready
+ready-at : (c : tie.After-stage) → let start = let c : tie.Start = search in c in let set = let c : tie.After-set-up = search in c .set-up in
+    ReadySheet (start .args .sheet .now) (start .args .area .now) (c .stage .given .0 .0) (c .stage .given .0 .1 .0) (c .stage .given .0 .1 .1 .0) (set .last .1 .0)
+ready-at c =
+    let is = c .stage .given .1 in
+    let c : tie.After-set-up = search in when-ready (c .set-up .ensures) is
+
+sub-run-steps : tie.Need-sub-run-steps
+sub-run-steps c =
+    let told = let c : tie.After-stage = search in ready-at c in
+    omega arith
+
+part-run-steps-start : tie.Need-part-run-steps-start
+part-run-steps-start c =
+    let told = let c : tie.After-stage = search in ready-at c in
+    omega arith
+
+part-run-steps-end : tie.Need-part-run-steps-end
+part-run-steps-end c =
+    let told = let c : tie.After-stage = search in ready-at c in
+    omega arith
+
+slice-relend-prefix-run-steps : tie.Need-slice-relend-prefix-run-steps
+slice-relend-prefix-run-steps c =
+    let told = let c : tie.After-stage = search in ready-at c in
+    omega arith
+
+slice-aggregate-run-steps : tie.Need-slice-aggregate-run-steps
+slice-aggregate-run-steps c =
+    let told = let c : tie.After-stage = search in ready-at c in
+    sym (length-take-le _ _ (told .fits))
+
+run-steps-requires : tie.Need-run-steps-requires
+run-steps-requires c κs = search needs
 
 enum-told : tie.Need-enum-told
 enum-told c = search needs
 
-slice-aggregate-put-bytes : tie.Need-slice-aggregate-put-bytes
-slice-aggregate-put-bytes c = search needs
+bad-sheet-requires : tie.Need-bad-sheet-requires
+bad-sheet-requires c κs = search needs
 
-put-bytes-requires : tie.Need-put-bytes-requires
-put-bytes-requires c κs = search needs
-
-end-or-requires : tie.Need-end-or-requires
-end-or-requires c κs = search needs
+enum-told-2 : tie.Need-enum-told-2
+enum-told-2 c = search needs
 
 same-length : tie.Need-same-length
 same-length c = search needs
 
-returns-3 : tie.Need-returns-3
-returns-3 c =
-    let args = let c : tie.After-slice-known = search in let c : tie.Start = search in c .args in
-    let take-apart = let c : tie.After-take-apart = search in c .take-apart in
-    let enum-told = let c : tie.After-enum-told = search in c .enum-told in
-    let put-bytes = let c : tie.After-put-bytes = search in c .put-bytes in
-    let s = args .sheet .now in
-    bad-run s _ _ (omega arith) (omega arith) (apart-bad s (sym (take-apart .ensures) ∙ enum-told .given .1)) (put-bytes .ensures) (c .end-or .ensures)
-
-mul-described : tie.Need-mul-described
-mul-described c =
-    let args = let c : tie.Start = search in c .args in
-    let take-apart = let c : tie.After-take-apart = search in c .take-apart in
-    let s = args .sheet .now in
-    let good = apart-good s (sym (take-apart .ensures) ∙ c .before .apart .given .1) in
-    omega arith
-
-add-described : tie.Need-add-described
-add-described c =
-    let args = let c : tie.Start = search in c .args in
-    let take-apart = let c : tie.After-take-apart = search in c .take-apart in
-    let s = args .sheet .now in
-    let good = apart-good s (sym (take-apart .ensures) ∙ c .before .apart .given .1) in
-    omega arith
-
-mul-stepped : tie.Need-mul-stepped
-mul-stepped c =
-    let args = let c : tie.Start = search in c .args in
-    let take-apart = let c : tie.After-take-apart = search in c .take-apart in
-    let s = args .sheet .now in
-    let good = apart-good s (sym (take-apart .ensures) ∙ c .before .apart .given .1) in
-    omega arith
-
-add-stepped : tie.Need-add-stepped
-add-stepped c =
-    let args = let c : tie.Start = search in c .args in
-    let take-apart = let c : tie.After-take-apart = search in c .take-apart in
-    let s = args .sheet .now in
-    let good = apart-good s (sym (take-apart .ensures) ∙ c .before .apart .given .1) in
-    omega arith
-
-mul-length : tie.Need-mul-length
-mul-length c =
-    let args = let c : tie.Start = search in c .args in
-    let take-apart = let c : tie.After-take-apart = search in c .take-apart in
-    let s = args .sheet .now in
-    let good = apart-good s (sym (take-apart .ensures) ∙ c .before .apart .given .1) in
-    omega arith
-
-add-length : tie.Need-add-length
-add-length c =
-    let args = let c : tie.Start = search in c .args in
-    let take-apart = let c : tie.After-take-apart = search in c .take-apart in
-    let s = args .sheet .now in
-    let good = apart-good s (sym (take-apart .ensures) ∙ c .before .apart .given .1) in
-    omega arith
-
-add-length-2 : tie.Need-add-length-2
-add-length-2 c =
-    let args = let c : tie.Start = search in c .args in
-    let take-apart = let c : tie.After-take-apart = search in c .take-apart in
-    let s = args .sheet .now in
-    let good = apart-good s (sym (take-apart .ensures) ∙ c .before .apart .given .1) in
-    omega arith
-
-sub-run-parts : tie.Need-sub-run-parts
-sub-run-parts c = search needs
-
-part-run-parts-start : tie.Need-part-run-parts-start
-part-run-parts-start c = search needs
-
-part-run-parts-end : tie.Need-part-run-parts-end
-part-run-parts-end c =
-    let args = let c : tie.Start = search in c .args in
-    let take-apart = let c : tie.After-take-apart = search in c .take-apart in
-    let s = args .sheet .now in
-    let good = apart-good s (sym (take-apart .ensures) ∙ c .before .apart .given .1) in
-    omega arith
-
-sub-run-parts-2 : tie.Need-sub-run-parts-2
-sub-run-parts-2 c = search needs
-
-part-run-parts-start-2 : tie.Need-part-run-parts-start-2
-part-run-parts-start-2 c = search needs
-
-part-run-parts-end-2 : tie.Need-part-run-parts-end-2
-part-run-parts-end-2 c =
-    let apart′ = let c : tie.After-apart = search in c .apart .given in
-    let args = let c : tie.Start = search in c .args in
-    let take-apart = let c : tie.After-take-apart = search in c .take-apart in
-    let s = args .sheet .now in
-    let good = apart-good s (sym (take-apart .ensures) ∙ apart′ .1) in
-    omega arith
-
-slice-relend-prefix-run-parts : tie.Need-slice-relend-prefix-run-parts
-slice-relend-prefix-run-parts c =
-    let args = let c : tie.Start = search in c .args in
-    let take-apart = let c : tie.After-take-apart = search in c .take-apart in
-    let apart = let c : tie.After-apart = search in c .apart in
-    let s = args .sheet .now in
-    let good = apart-good s (sym (take-apart .ensures) ∙ apart .given .1) in
-    omega arith
-
-slice-aggregate-run-parts : tie.Need-slice-aggregate-run-parts
-slice-aggregate-run-parts c =
-    let args = let c : tie.Start = search in c .args in
-    let take-apart = let c : tie.After-take-apart = search in c .take-apart in
-    let apart = let c : tie.After-apart = search in c .apart in
-    let s = args .sheet .now in
-    let good = apart-good s (sym (take-apart .ensures) ∙ apart .given .1) in
-    sym (length-take-le _ _ (omega arith))
-
-run-parts-requires : tie.Need-run-parts-requires
-run-parts-requires c κs = search needs
-
 same-length-2 : tie.Need-same-length-2
 same-length-2 c = search needs
+
+returns-2 : tie.Need-returns-2
+returns-2 c =
+    let told = let c : tie.After-stage = search in ready-at c in
+    let c : tie.After-run-steps = search in let ran = c .run-steps in
+    good-run _ _ _ (omega arith) told (ran .kept .1 .0) (ran .ensures)
 
 same-length-3 : tie.Need-same-length-3
 same-length-3 c = search needs
 
+same-length-4 : tie.Need-same-length-4
+same-length-4 c = search needs
+
+returns-3 : tie.Need-returns-3
+returns-3 c =
+    let c : tie.After-bad-sheet = search in let put = c .bad-sheet .ensures in
+    let c : tie.After-enum-told = search in let is = c .enum-told .given .1 in
+    let c : tie.After-set-up = search in let set = c .set-up .ensures in
+    bad-run _ _ _ (omega arith) (when-bad set is) put
+
+same-length-5 : tie.Need-same-length-5
+same-length-5 c = search needs
+
 returns-4 : tie.Need-returns-4
 returns-4 c =
-    let args = let c : tie.After-take-apart = search in let c : tie.Start = search in c .args in
-    let take-apart = let c : tie.After-take-apart = search in c .take-apart in
-    let apart = let c : tie.After-apart = search in c .apart in
-    let run-parts = let c : tie.After-run-parts = search in c .run-parts in
-    let s = args .sheet .now in
-    let good = apart-good s (sym (take-apart .ensures) ∙ apart .given .1) in
-    good-run s _ _ (omega arith) (omega arith) good (run-parts .kept .1 .1 .0) (run-parts .ensures)
+    let c : tie.After-enum-told2 = search in let is = c .enum-told2 .given .1 in
+    let c : tie.After-set-up = search in let set = c .set-up .ensures in
+    short-area _ _ _ (when-short set is)
 
 pub run-sheet-spec : {M : Type 1} → statement M
 run-sheet-spec =
     tie.close
     (tie.spec
     returns
-    returns-2
-    take-apart-requires
-    enum-known-apart
+    set-up-requires
+    enum-known-stage
+    sub-run-steps
+    part-run-steps-start
+    part-run-steps-end
+    slice-relend-prefix-run-steps
+    slice-aggregate-run-steps
+    run-steps-requires
     enum-told
-    slice-aggregate-put-bytes
-    put-bytes-requires
-    end-or-requires
+    bad-sheet-requires
+    enum-told-2
     same-length
-    returns-3
-    mul-described
-    add-described
-    mul-stepped
-    add-stepped
-    mul-length
-    add-length
-    add-length-2
-    sub-run-parts
-    part-run-parts-start
-    part-run-parts-end
-    sub-run-parts-2
-    part-run-parts-start-2
-    part-run-parts-end-2
-    slice-relend-prefix-run-parts
-    slice-aggregate-run-parts
-    run-parts-requires
     same-length-2
+    returns-2
     same-length-3
+    same-length-4
+    returns-3
+    same-length-5
     returns-4)
