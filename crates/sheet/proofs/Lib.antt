@@ -3,7 +3,6 @@ pub mod Steps
 pub mod State
 pub mod Short
 pub mod Whole
-pub mod Within
 pub mod Unique
 pub mod States
 pub mod SheetS

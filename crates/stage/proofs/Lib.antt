@@ -5,4 +5,5 @@ pub mod Front
 pub mod Short
 pub mod Ways
 pub mod Ready
+pub mod Printing
 pub mod Unique

@@ -2,3 +2,4 @@ pub mod Calls
 pub mod First
 pub mod SetUp
 pub mod States
+pub mod Printed

@@ -1,7 +1,7 @@
 -- `main` is safe: what the run says it has written stands in the buffer.
 use mathlib.Core.Path.{sym}
 use lib.Seq.{length-take-le}
-use Rattle.sheet.proofs.Within.{written-within}
+use Rattle.stage.proofs.Printing.{written-within}
 use borrow.Author.Needs.{needs}
 use Rattle.run.proofs.main.Statement.{statement}
 use Rattle.run.proofs.main.Tie as tie

@@ -3,13 +3,16 @@ use mathlib.Core.Path.{sym}
 use native.Mathlib.Omega.{arith}
 use lib.Seq.{length-take-le}
 use Rattle.stage.proofs.Ready.{ReadySheet, when-ready, when-bad, when-short}
-use Rattle.sheet.proofs.Whole.{short-out, short-area, bad-run, good-run}
+use Rattle.stage.proofs.Printing.{short-out, short-area, bad-run}
+use Rattle.sheet.specs.Output.{output}
+use Rattle.sheet.specs.Whole.{mostOutput}
+use Rattle.sheet.proofs.Whole.{bad-output, ran-on}
 use borrow.Author.Needs.{needs}
 use Rattle.sheet.proofs.run_sheet.Statement.{statement}
 use Rattle.sheet.proofs.run_sheet.Tie as tie
 
 returns : tie.Need-returns
-returns c = short-out _ _ _ (omega arith)
+returns c = short-out _ _ _ _ _ (omega arith)
 
 set-up-requires : tie.Need-set-up-requires
 set-up-requires c κs = search needs
@@ -71,7 +74,7 @@ returns-2 : tie.Need-returns-2
 returns-2 c =
     let told = let c : tie.After-stage = search in ready-at c in
     let c : tie.After-run-steps = search in let ran = c .run-steps in
-    good-run _ _ _ (omega arith) told (ran .kept .1 .0) (ran .ensures)
+    ran-on _ _ _ (omega arith) told (ran .kept .1 .0) (ran .ensures)
 
 same-length-3 : tie.Need-same-length-3
 same-length-3 c = search needs
@@ -83,8 +86,10 @@ returns-3 : tie.Need-returns-3
 returns-3 c =
     let c : tie.After-bad-sheet = search in let put = c .bad-sheet .ensures in
     let c : tie.After-enum-told = search in let is = c .enum-told .given .1 in
-    let c : tie.After-set-up = search in let set = c .set-up .ensures in
-    bad-run _ _ _ (omega arith) (when-bad set is) put
+    let c : tie.After-set-up = search in let bad = when-bad (c .set-up .ensures) is in
+    let args = let c : tie.Start = search in c .args in
+    let s = args .sheet .now in
+    bad-run mostOutput (output s) s (args .area .now) (args .out .now) (omega arith) (omega arith) (bad-output s (args .area .now) bad) bad put
 
 same-length-5 : tie.Need-same-length-5
 same-length-5 c = search needs
@@ -93,7 +98,7 @@ returns-4 : tie.Need-returns-4
 returns-4 c =
     let c : tie.After-enum-told2 = search in let is = c .enum-told2 .given .1 in
     let c : tie.After-set-up = search in let set = c .set-up .ensures in
-    short-area _ _ _ (when-short set is)
+    short-area _ _ _ _ _ (when-short set is)
 
 pub run-sheet-spec : {M : Type 1} → statement M
 run-sheet-spec =
