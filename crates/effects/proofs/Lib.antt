@@ -2,3 +2,4 @@ pub mod Numbering
 pub mod Fields
 pub mod Looking
 pub mod Steps
+pub mod OneStep
