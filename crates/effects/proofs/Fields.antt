@@ -14,22 +14,22 @@ use Rattle.slot.specs.declared.SlotRecord.{SlotRecord}
 use Rattle.line.specs.Line.{newline, field}
 use Rattle.effects.specs.declared.Shown.{Shown}
 use Rattle.effects.specs.declared.Shown.the-variants.{Begun, Read, Reloaded, Committed, Aborted, Nothing}
-use Rattle.effects.specs.Effects.{cellsOf}
+use Rattle.effects.specs.Effects.{writtenCells}
 use Rattle.effects.specs.Parts.{wordParts, restParts, effectParts}
 use Rattle.effects.proofs.Shown.{the-type}
 
 -- one cell more of a log's first n entries
 module _ (log : List WriteEntry) (n i : ℕ) where
   pub cells-next : i < n → i < length log
-      → map field (cellsOf (take (i + 1) (take n log))) ≡ map field (cellsOf (take i (take n log))) ++ (field (getD log i noWrite .cell) ∷ [])
+      → map field (writtenCells (take (i + 1) (take n log))) ≡ map field (writtenCells (take i (take n log))) ++ (field (getD log i noWrite .cell) ∷ [])
   cells-next h k =
       let more : take (i + 1) (take n log) ≡ take i (take n log) ++ (getD log i noWrite ∷ []) =
       rw (add-one i, ← getD-take n log i noWrite h) (take-suc (take n log) i noWrite (rw length-take (omega arith))) in
       rw (more, map-append, map-append)
 
   -- all of them
-  pub cells-all : length (take n log) ≤ i → map field (cellsOf (take i (take n log))) ≡ map field (cellsOf (take n log))
-  cells-all h = ap (λ (l : List WriteEntry). map field (cellsOf l)) (take-all i (take n log) h)
+  pub cells-all : length (take n log) ≤ i → map field (writtenCells (take i (take n log))) ≡ map field (writtenCells (take n log))
+  cells-all h = ap (λ (l : List WriteEntry). map field (writtenCells l)) (take-all i (take n log) h)
 
 -- neither a read nor a commit has more than its slot and its number
 pub no-rest : (shown : Shown) (cell : ℕ) (v : SlotRecord) → OneOf (0 ∷ 2 ∷ 3 ∷ 4 ∷ 5 ∷ []) (tagOf the-type shown)

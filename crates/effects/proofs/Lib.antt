@@ -3,3 +3,5 @@ pub mod Fields
 pub mod Looking
 pub mod Steps
 pub mod OneStep
+pub mod Short
+pub mod Events

@@ -31,7 +31,7 @@ use Rattle.area.proofs.SlotRead.{slot-of}
 use Rattle.stage.proofs.First.{Kept}
 use Rattle.effects.specs.declared.Numbers.{Numbers}
 use Rattle.effects.specs.declared.Shown.the-variants.{Begun, Read, Reloaded, Committed, Aborted, Nothing}
-use Rattle.effects.specs.Effects.{Effect, begun, readShared, reloaded, committed, aborted, cellsOf, effectOf}
+use Rattle.effects.specs.Effects.{Effect, begun, readShared, reloaded, committed, aborted, writtenCells, effectOf}
 use Rattle.effects.specs.Parts.{slotStart, beforeOf, lookedAt, readShown, shownBy, effectBy}
 use Rattle.effects.specs.Steps.{codeOn, effectOn}
 
@@ -61,7 +61,7 @@ module _ (step code slot cell number : ℕ) (v : SlotRecord) (written read : Boo
       cond (eqb step 1 and eqb code 0) (begun slot number ∷ [])
       (cond ((eqb step 2 and eqb code 0) and not written and not read) (readShared slot number cell ∷ [])
       (cond (eqb step 10 and eqb code 0) (reloaded slot number ∷ [])
-      (cond (eqb step 12 and eqb code 0) (committed slot number (v .commit) (cellsOf (writeLog v)) ∷ [])
+      (cond (eqb step 12 and eqb code 0) (committed slot number (v .commit) (writtenCells (writeLog v)) ∷ [])
       (cond ((eqb step 14 and eqb code 0) or eqb code 13) (aborted slot number ∷ [])
       []))))
 

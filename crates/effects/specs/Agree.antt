@@ -3,7 +3,7 @@ use mathlib.Core.List.{List, [], _∷_, map}
 use mathlib.Core.Path.{_≡_}
 use Prim.Native.Nat.{ℕ}
 use Rattle.history.specs.History.{Event, Commit, commits, SharedRead, sharedReads}
-use Rattle.effects.specs.Effects.{Effect, begun, readShared, reloaded, committed, aborted, cellsOf, effects}
+use Rattle.effects.specs.Effects.{Effect, begun, readShared, reloaded, committed, aborted, writtenCells, effects}
 
 -- a stamp and the written cells
 pub record ShownCommit : Type 0 where
@@ -20,7 +20,7 @@ commitsShown (committed slot number stamp cells ∷ effects) = record { stamp = 
 commitsShown (aborted slot number ∷ effects) = commitsShown effects
 
 abbrev pub shownOf : Commit → ShownCommit
-shownOf x = record { stamp = x .stamp; cells = cellsOf (x .writes) }
+shownOf x = record { stamp = x .stamp; cells = writtenCells (x .writes) }
 
 -- the cells of the `r` lines
 abbrev pub cellsShown : List Effect → List ℕ

@@ -29,8 +29,8 @@ numberOf [] slot = 0
 numberOf (e ∷ past) slot = cond (accepts 1 e and eqb (e .call .slot) slot) (begins (e ∷ past)) (numberOf past slot)
 
 -- the cells of a write log, which ascends
-abbrev pub cellsOf : List WriteEntry → List ℕ
-cellsOf writes = map (λ (e : WriteEntry). e .cell) writes
+abbrev pub writtenCells : List WriteEntry → List ℕ
+writtenCells writes = map (λ (e : WriteEntry). e .cell) writes
 
 -- "`ab` give up or outcome 13"
 abbrev pub aborts : Event → Bool
@@ -44,7 +44,7 @@ effectOf number e =
     cond (accepts 1 e) (begun slot number ∷ [])
     (cond (fromShared e) (readShared slot number (e .call .cell) ∷ [])
     (cond (accepts 10 e) (reloaded slot number ∷ [])
-    (cond (accepts 12 e) (committed slot number (commitOf (ownSlot e)) (cellsOf (writesOf (ownSlot e))) ∷ [])
+    (cond (accepts 12 e) (committed slot number (commitOf (ownSlot e)) (writtenCells (writesOf (ownSlot e))) ∷ [])
     (cond (aborts e) (aborted slot number ∷ [])
     []))))
 

@@ -3,3 +3,4 @@ pub mod Trace
 pub mod Agree
 pub mod Parts
 pub mod Steps
+pub mod Traced

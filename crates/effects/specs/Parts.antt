@@ -21,7 +21,7 @@ use Rattle.effects.specs.declared.Shown.{Shown}
 use Rattle.effects.specs.declared.Shown.the-variants.{Begun, Read, Reloaded, Committed, Aborted, Nothing}
 use Rattle.effects.specs.declared.Before.{Before}
 use Rattle.effects.specs.declared.Numbers.{Numbers}
-use Rattle.effects.specs.Effects.{Effect, begun, readShared, reloaded, committed, aborted, cellsOf}
+use Rattle.effects.specs.Effects.{Effect, begun, readShared, reloaded, committed, aborted, writtenCells}
 use Rattle.effects.specs.Trace.{effectWord, effectFields}
 
 -- a search has found an entry
@@ -78,7 +78,7 @@ abbrev pub effectBy : Shown → (slot number cell : ℕ) → SlotRecord → List
 effectBy Begun slot number cell v = begun slot number ∷ []
 effectBy Read slot number cell v = readShared slot number cell ∷ []
 effectBy Reloaded slot number cell v = reloaded slot number ∷ []
-effectBy Committed slot number cell v = committed slot number (v .commit) (cellsOf (writeLog v)) ∷ []
+effectBy Committed slot number cell v = committed slot number (v .commit) (writtenCells (writeLog v)) ∷ []
 effectBy Aborted slot number cell v = aborted slot number ∷ []
 effectBy Nothing slot number cell v = []
 
@@ -100,7 +100,7 @@ wordParts Aborted = (97 ∷ 98 ∷ []) ∷ []
 wordParts Nothing = []
 
 abbrev pub cellParts : SlotRecord → List (List ℕ)
-cellParts v = map field (cellsOf (writeLog v))
+cellParts v = map field (writtenCells (writeLog v))
 
 abbrev pub restParts : Shown → ℕ → SlotRecord → List (List ℕ)
 restParts Begun cell v = []

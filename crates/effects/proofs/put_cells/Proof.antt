@@ -9,7 +9,7 @@ use Rattle.slot.specs.Layout.{noWrite}
 use Rattle.line.specs.Line.{field}
 use Rattle.line.specs.Gather.{gathered, addedParts, Leaves}
 use Rattle.line.proofs.Gather.{leaves-both, leaves-one, leaves-none}
-use Rattle.effects.specs.Effects.{cellsOf}
+use Rattle.effects.specs.Effects.{writtenCells}
 use Rattle.effects.proofs.Fields.{cells-next, cells-all}
 use borrow.Author.Needs.{needs}
 use Rattle.effects.proofs.put_cells.Statement.{statement}
@@ -17,7 +17,7 @@ use Rattle.effects.proofs.put_cells.Tie as tie
 
 abbrev Inv-loop : tie.InvT-loop
 Inv-loop out₀ at n log end₀ i₀ out end i =
-    (length log ≡ 16) × (length out ≡ length out₀) × (i ≤ 16) × Leaves (addedParts (map field (cellsOf (take i (take n log)))) (gathered at out₀)) end out
+    (length log ≡ 16) × (length out ≡ length out₀) × (i ≤ 16) × Leaves (addedParts (map field (writtenCells (take i (take n log)))) (gathered at out₀)) end out
 
 abbrev μ-loop : tie.MeasureT-loop
 μ-loop out₀ at n log end₀ i₀ out end i = 16 - i
