@@ -4,3 +4,4 @@ pub mod Agree
 pub mod Parts
 pub mod Steps
 pub mod Traced
+pub mod SheetS

@@ -5,6 +5,7 @@ ghost use lib.ListN.{getD};
 ghost use Rattle.line.specs.Gather.{Leaves, gathered, addedParts};
 ghost use Rattle.stage.specs.Calls.{callOf};
 ghost use Rattle.effects.specs.Steps.{StepTraced, StepsTraced};
+ghost use Rattle.effects.specs.Traced.{SheetTraced};
 ghost use Rattle.effects.specs.Parts.{shownBy, readShown, inEither, lookedAt, noNumbers, numbersAfter, wordParts, cellParts, restParts, effectParts};
 use area::CELL;
 use area::COUNT;
@@ -14,6 +15,8 @@ use area::STAMP;
 use slot::ReadFound;
 use slot::SlotRecord;
 use slot::WriteFound;
+use stage::Ran;
+use stage::Stage;
 
 // What a step shows.
 pub enum Shown {
@@ -42,6 +45,9 @@ pub struct Traced {
     pub numbers: Numbers,
     pub end: usize,
 }
+
+// Room for the longest trace: 12 bytes for each of 4,096 steps.
+pub const MOST_TRACE: usize = 49152;
 
 // The step that begins a transaction, and the outcome that ends one without commit.
 const BEGIN: u8 = 1;
@@ -270,4 +276,21 @@ fn trace_steps(steps: &[u8], area: &mut [u8], out: &mut [u8]) -> usize
         k += 1;
     }
     end
+}
+
+// Runs a sheet: its trace stands at the front of `out`, and its area at the front of `area`.
+pub fn trace_sheet(sheet: &[u8], area: &mut [u8], out: &mut [u8]) -> Ran
+    ensures { λ r. ⌜ SheetTraced (now (sheet .entry)) (now (area .entry)) (now (out .entry)) r (now (area .exit)) (now (out .exit)) ⌝ }
+{
+    if out.len() < MOST_TRACE {
+        return Ran::Short;
+    }
+    let stage = stage::set_up(sheet, area);
+    match stage {
+        Stage::Ready { length, first, end } => {
+            Ran::Written(trace_steps(&sheet[first..end], &mut area[..length], out))
+        }
+        Stage::Bad => Ran::Written(stage::bad_sheet(out)),
+        Stage::Short => Ran::Short,
+    }
 }

@@ -11,7 +11,8 @@ use Rattle.apart.specs.Apart.{wholeSheet, describedRight, stepsRight, goodSheet
 use Rattle.stage.specs.Calls.{callOf}
 use Rattle.stage.specs.States.{stateAfter}
 use Rattle.sheet.specs.States.{stateLine, endLines}
-use Rattle.sheet.specs.SheetS.{sheetS, SheetS}
+use Rattle.stage.specs.SheetS.{sheetS}
+use Rattle.sheet.specs.SheetS.{SheetS}
 use Rattle.sheet.proofs.States.{on-states}
 
 pub sheet-s : SheetS

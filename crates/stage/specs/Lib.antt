@@ -3,3 +3,4 @@ pub mod First
 pub mod SetUp
 pub mod States
 pub mod Printed
+pub mod SheetS
