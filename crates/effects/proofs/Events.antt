@@ -1,8 +1,8 @@
 -- The events of a run, step by step: the effects that are made of the steps are those of the history.
-use mathlib.Core.Bool.{Bool, true, false, cond}
+use mathlib.Core.Bool.{Bool, true, false}
 use mathlib.Core.List.{List, [], _∷_, _++_, append-nil, append-assoc}
 use mathlib.Core.Path.{_≡_, refl, sym, ap, ap₂, _∙_}
-use Prim.Native.Nat.{ℕ, zero, suc, pred, _+_, _<_, _≤_}
+use Prim.Native.Nat.{ℕ, zero, suc, _+_, _<_, _≤_}
 use native.Mathlib.Numerals.{add-one}
 use native.Mathlib.Omega.{arith}
 use borrow.Author.Tests.{eqb-true, eqb-false, eq-eqb}
@@ -10,7 +10,6 @@ use lib.Dec.{eqb}
 use lib.ListN.{length, getD, set, getD-replicate, length-set}
 use lib.Seq.{getD-set-same, getD-set-other}
 use Rattle.wire.specs.Table.{cat, tab}
-use Rattle.call.specs.Answer.{replyCode, Refuses}
 use Rattle.slot.specs.Logic.{_and_}
 use Rattle.slot.proofs.Logic.{and-intro}
 use Rattle.apart.proofs.Tests.{fails, goes-on}
@@ -23,11 +22,11 @@ use Rattle.history.specs.AreaHistory.{areaHistory}
 use Rattle.history.specs.Keeps.{bytesAfter}
 use Rattle.stage.specs.Calls.{callAt, areaAfter}
 use Rattle.stage.proofs.First.{Kept}
-use Rattle.effects.specs.declared.Numbers.{Numbers}
+use Rattle.telling.specs.declared.Numbers.{Numbers}
 use Rattle.effects.specs.Effects.{begins, numberOf, effectOf, effectsAfter, effects}
-use Rattle.effects.specs.Parts.{numbersAfter, noNumbers}
-use Rattle.effects.specs.Steps.{codeOn, numbersOn, effectOn, numbersAt, effectsUpTo}
-use Rattle.effects.proofs.Numbering.{one-more, no-begin, refused-begin}
+use Rattle.telling.specs.Parts.{noNumbers}
+use Rattle.effects.specs.Steps.{codeOn, numbersOn, numbersAt, effectsUpTo}
+use Rattle.telling.proofs.Numbering.{one-more, no-begin, refused-begin}
 use Rattle.effects.proofs.Short.{begins-next}
 use Rattle.effects.proofs.OneStep.{eventOn, inside, effect-right}
 

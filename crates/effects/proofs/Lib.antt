@@ -1,6 +1,3 @@
-pub mod Numbering
-pub mod Fields
-pub mod Looking
 pub mod Steps
 pub mod OneStep
 pub mod Short

@@ -1,10 +1,10 @@
 -- One step on a well-formed area: the effect that is made of it is that of its event.
 use mathlib.Core.Bool.{Bool, true, false, not, cond}
 use mathlib.Core.List.{List, [], _∷_}
-use mathlib.Core.Path.{_≡_, refl, sym, ap, _∙_}
+use mathlib.Core.Path.{_≡_, refl, ap, _∙_}
 use Prim.Native.Nat.{ℕ, pred, _+_, _<_}
 use native.Mathlib.Omega.{arith}
-use borrow.Author.Tests.{eqb-true, eqb-false, ne-eqb, le-leb}
+use borrow.Author.Tests.{eqb-true, le-leb}
 use lib.Dec.{eqb}
 use lib.ListN.{length, getD}
 use Rattle.call.specs.Answer.{replyCode, Refuses}
@@ -15,7 +15,7 @@ use Rattle.slot.specs.Logs.{readsCell, writesCell, readLog, writeLog}
 use Rattle.slot.proofs.Logic.{and-false}
 use Rattle.slot.specs.declared.SlotRecord.{SlotRecord}
 use Rattle.rules.specs.Model.{controller}
-use Rattle.rules.specs.State.{Slot, idle, opened, locking, twilight, publishing, slotAt, readsOf, writesOf, commitOf}
+use Rattle.rules.specs.State.{Slot, idle, opened, locking, twilight, publishing, slotAt, commitOf}
 use Rattle.rules.specs.Outcome.{Outcome, replyOf}
 use Rattle.rules.specs.Step.{Call, step}
 use Rattle.rules.specs.Layout.{lay, stateOf}
@@ -25,15 +25,13 @@ use Rattle.history.specs.History.{Event}
 use Rattle.history.proofs.Cases.{Refusal}
 use Rattle.history.proofs.StepCase.{step-case}
 use Rattle.history.proofs.Keeps.OnBytes.{stepped, answered-reply}
-use Rattle.area.specs.Good.{Good}
 use Rattle.area.proofs.Good.{good-of}
 use Rattle.area.proofs.SlotRead.{slot-of}
 use Rattle.stage.proofs.First.{Kept}
-use Rattle.effects.specs.declared.Numbers.{Numbers}
-use Rattle.effects.specs.declared.Shown.the-variants.{Begun, Read, Reloaded, Committed, Aborted, Nothing}
+use Rattle.telling.specs.declared.Numbers.{Numbers}
 use Rattle.effects.specs.Effects.{Effect, begun, readShared, reloaded, committed, aborted, writtenCells, effectOf}
-use Rattle.effects.specs.Parts.{slotStart, beforeOf, lookedAt, readShown, shownBy, effectBy}
-use Rattle.effects.specs.Steps.{codeOn, effectOn}
+use Rattle.telling.specs.Parts.{slotStart, beforeOf, lookedAt, readShown, shownBy}
+use Rattle.effects.specs.Steps.{effectBy, codeOn, effectOn}
 
 -- the event of a call on an area
 abbrev pub eventOn : List ℕ → Call → Event

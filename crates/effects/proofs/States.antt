@@ -2,7 +2,7 @@
 use mathlib.Core.Bool.{true}
 use mathlib.Core.List.{List}
 use mathlib.Core.Path.{_≡_, refl, ap, _∙_}
-use Prim.Native.Nat.{ℕ, _*_, _≤_}
+use Prim.Native.Nat.{ℕ, _≤_}
 use native.Mathlib.Omega.{arith}
 use lib.ListN.{length}
 use Rattle.wire.proofs.Laws.Table.{length-tab}
@@ -10,7 +10,7 @@ use Rattle.slot.specs.Logic.{_and_, all}
 use Rattle.slot.proofs.Logic.{and-intro}
 use Rattle.rules.specs.Model.{controller}
 use Rattle.rules.specs.State.{State}
-use Rattle.rules.specs.StateRight.{stateRight, isIdle, stateAtRest}
+use Rattle.rules.specs.StateRight.{stateRight, stateAtRest}
 use Rattle.rules.specs.Step.{step}
 use Rattle.rules.specs.Layout.{stateOf}
 use Rattle.rules.specs.Area.{describedCells, fresh}

@@ -1,27 +1,39 @@
 -- The steps of a sheet and the lines of their effects, one after the other.
-use mathlib.Core.List.{List, [], _∷_, _++_, append-assoc}
-use mathlib.Core.Path.{_≡_, refl, sym, ap, _∙_}
+use mathlib.Core.List.{List, [], _∷_, _++_, append-assoc, append-nil, map-map}
+use mathlib.Core.Path.{_≡_, refl, ap, _∙_}
 use Prim.Native.Nat.{ℕ, _+_, _*_, _-_, _/_, _^_}
 use native.Mathlib.Numerals.{add-one}
 use native.Mathlib.Omega.{arith}
 use lib.ListN.{getD, take, drop}
+use Rattle.slot.specs.Logs.{writeLog}
 use Rattle.slot.specs.declared.SlotRecord.{SlotRecord}
+use Rattle.slot.specs.declared.WriteEntry.{WriteEntry}
 use Rattle.rules.specs.Model.{controller}
-use Rattle.rules.specs.Step.{Call}
 use Rattle.rules.specs.Area.{stepOnBytes}
 use Rattle.crocktendril.specs.Contract.{Stepped}
 use Rattle.crocktendril.proofs.Demands.{demand1}
 use Rattle.apart.specs.Apart.{byteAt}
+use Rattle.line.specs.Line.{field}
 use Rattle.line.specs.Gather.{gathered, addedParts, Leaves}
 use Rattle.line.proofs.Gather.{leaves-both}
 use Rattle.stage.specs.Calls.{callOf, callAt, areaAfter}
-use Rattle.effects.specs.declared.Before.{Before}
-use Rattle.effects.specs.declared.Numbers.{Numbers}
-use Rattle.effects.specs.declared.Shown.{Shown}
+use Rattle.telling.specs.declared.Before.{Before}
+use Rattle.telling.specs.declared.Numbers.{Numbers}
+use Rattle.telling.specs.declared.Shown.{Shown}
+use Rattle.telling.specs.declared.Shown.the-variants.{Begun, Read, Reloaded, Committed, Aborted, Nothing}
+use Rattle.telling.specs.Parts.{lookedAt, numbersAfter, shownBy, effectParts}
 use Rattle.effects.specs.declared.Traced.{Traced}
 use Rattle.effects.specs.Effects.{Effect}
-use Rattle.effects.specs.Parts.{lookedAt, numbersAfter, shownBy, effectParts, partsOf}
-use Rattle.effects.specs.Steps.{numbersOn, effectOn, numbersAt, effectsUpTo, StepTraced}
+use Rattle.effects.specs.Steps.{effectBy, partsOf, effectOn, numbersAt, effectsUpTo, StepTraced}
+
+-- the parts of a step's line are those of its effect
+told-parts : (shown : Shown) (slot number cell : ℕ) (v : SlotRecord) → effectParts shown slot number cell v ≡ partsOf (effectBy shown slot number cell v)
+told-parts Begun slot number cell v = refl
+told-parts Read slot number cell v = refl
+told-parts Reloaded slot number cell v = refl
+told-parts Committed slot number cell v = rw (append-nil, map-map field (λ (e : WriteEntry). e .cell) (writeLog v))
+told-parts Aborted slot number cell v = refl
+told-parts Nothing slot number cell v = refl
 
 -- one step: what was looked at before it, and its code
 pub step-traced : (a step out : List ℕ) (v : Numbers) (at : ℕ) {kind slot cell r number end : ℕ} {before : Before} {after : Numbers} {shown : Shown} {b t : List ℕ}
@@ -35,7 +47,7 @@ step-traced a step out v at kind slot cell looked made counted shown number line
     record {
       area = made .bytes;
       numbers = rw (kind, slot, code) at counted;
-      lines = rw (number, shown, counted, looked, kind, slot, cell, code) at lines;
+      lines = rw (told-parts, number, shown, counted, looked, kind, slot, cell, code) at lines;
     }
 
 -- the 8 bytes of step k stand at 8 × k

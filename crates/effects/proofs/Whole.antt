@@ -1,5 +1,4 @@
 -- The lines of a good sheet's effects all fit.
-use mathlib.Core.Bool.{true, false}
 use mathlib.Core.List.{List, [], _∷_, _++_, map, flatten, append-assoc, append-nil}
 use mathlib.Core.Path.{_≡_, refl, sym, ap, _∙_}
 use Prim.Native.Nat.{ℕ, _-_, _≤_}
@@ -17,8 +16,7 @@ use Rattle.stage.proofs.Ready.{ReadySheet, BadSheet}
 use Rattle.stage.proofs.Printing.{good-run}
 use Rattle.effects.specs.Effects.{Effect, effects}
 use Rattle.effects.specs.Trace.{effectWord, effectFields, effectLine, trace}
-use Rattle.effects.specs.Parts.{partsOf}
-use Rattle.effects.specs.Steps.{effectsUpTo, StepsTraced}
+use Rattle.effects.specs.Steps.{partsOf, effectsUpTo, StepsTraced}
 use Rattle.effects.specs.Traced.{sheetHistory, traced, mostTrace, SheetTraced}
 use Rattle.effects.proofs.Events.{effects-right}
 use Rattle.effects.proofs.States.{traced-short}

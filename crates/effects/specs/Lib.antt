@@ -1,7 +1,6 @@
 pub mod Effects
 pub mod Trace
 pub mod Agree
-pub mod Parts
 pub mod Steps
 pub mod Traced
 pub mod SheetS

@@ -1,44 +1,10 @@
 // The effects of a step sheet's run, a line each. Any bytes are taken, and any buffers.
-ghost use mathlib.Core.Path.{_≡_};
-ghost use Prim.Native.Nat.{pred};
-ghost use lib.ListN.{getD};
-ghost use Rattle.line.specs.Gather.{Leaves, gathered, addedParts};
 ghost use Rattle.stage.specs.Calls.{callOf};
 ghost use Rattle.effects.specs.Steps.{StepTraced, StepsTraced};
 ghost use Rattle.effects.specs.Traced.{SheetTraced};
-ghost use Rattle.effects.specs.Parts.{shownBy, readShown, inEither, lookedAt, noNumbers, numbersAfter, wordParts, cellParts, restParts, effectParts};
-use area::CELL;
-use area::COUNT;
-use area::HEADER;
-use area::SLOT;
-use area::STAMP;
-use slot::ReadFound;
-use slot::SlotRecord;
-use slot::WriteFound;
 use stage::Ran;
 use stage::Stage;
-
-// What a step shows.
-pub enum Shown {
-    Begun,
-    Read,
-    Reloaded,
-    Committed,
-    Aborted,
-    Nothing,
-}
-
-// What a step's slot has before it, as far as an effect tells of it: whether a log has the step's cell, and the record with its write log.
-pub struct Before {
-    pub logged: bool,
-    pub own: SlotRecord,
-}
-
-// How many transactions have begun, and the number of each slot's last one, 0 for none. A slot has the place of its own number.
-pub struct Numbers {
-    pub begun: u64,
-    pub last: [u64; Numbers::PLACES],
-}
+use telling::Numbers;
 
 // The numbers after a step, and where the lines end.
 pub struct Traced {
@@ -49,199 +15,6 @@ pub struct Traced {
 // Room for the longest trace: 12 bytes for each of 4,096 steps.
 pub const MOST_TRACE: usize = 49152;
 
-// The step that begins a transaction, and the outcome that ends one without commit.
-const BEGIN: u8 = 1;
-
-const ABORTED: u64 = 13;
-
-impl Numbers {
-    pub const PLACES: usize = 9;
-
-    // The last number that there is: the count stays there, and never wraps.
-    const LAST: u64 = 18446744073709551615;
-
-    fn none() -> Self
-        ensures { λ r. ⌜ r ≡ noNumbers ⌝ }
-    {
-        Numbers {
-            begun: 0,
-            last: [0; Numbers::PLACES],
-        }
-    }
-
-    // The number of a slot's transaction.
-    fn of(self, slot: u8) -> u64
-        ensures { λ r. ⌜ r ≡ getD (self .last) slot 0 ⌝ }
-    {
-        let at = slot as usize;
-        if at < Numbers::PLACES {
-            return self.last[at];
-        }
-        0
-    }
-
-    // After a step: an accepted begin gives its slot the next number.
-    fn after(mut self, step: u8, slot: u8, code: u64) -> Self
-        ensures { λ r. ⌜ r ≡ numbersAfter self step slot code ⌝ }
-    {
-        if step != BEGIN {
-            return self;
-        }
-        if code != 0 {
-            return self;
-        }
-        let at = slot as usize;
-        if Numbers::PLACES <= at {
-            return self;
-        }
-        if self.begun == Numbers::LAST {
-            return self;
-        }
-        self.begun += 1;
-        self.last[at] = self.begun;
-        self
-    }
-}
-
-// The place of a slot among the slots, counted from 0.
-fn index(slot: u8) -> u8
-    ensures { λ r. ⌜ r ≡ pred slot ⌝ }
-{
-    if slot == 0 {
-        return 0;
-    }
-    slot - 1
-}
-
-// Whether a search of one of the logs has found an entry.
-fn in_either(written: WriteFound, read: ReadFound) -> bool
-    ensures { λ r. ⌜ r ≡ inEither written read ⌝ }
-{
-    if let WriteFound::Entry(e) = written {
-        return true;
-    }
-    if let ReadFound::Entry(e) = read {
-        return true;
-    }
-    false
-}
-
-// Looks at a slot, and at whether a log of it has the cell. An area that is too short for the slot, which no run has, shows nothing.
-fn look(area: &[u8], slot: u8, cell: u8) -> Before
-    ensures { λ r. ⌜ r ≡ lookedAt (now (area .entry)) slot cell ⌝ }
-{
-    let cells = apart::byte(area, COUNT) as usize;
-    let at = HEADER + CELL * cells + SLOT * (index(slot) as usize);
-    if area.len() < at + SLOT {
-        return Before {
-            logged: false,
-            own: SlotRecord::empty(),
-        };
-    }
-    let written = packed::find_write(area, at, STAMP, cell);
-    let read = packed::find_read(area, at, STAMP, cell);
-    Before {
-        logged: in_either(written, read),
-        own: packed::with_writes(area, at, STAMP),
-    }
-}
-
-// What an accepted read shows: nothing if it was answered from a log.
-fn read_shown(logged: bool) -> Shown
-    ensures { λ r. ⌜ r ≡ readShown logged ⌝ }
-{
-    if logged {
-        return Shown::Nothing;
-    }
-    Shown::Read
-}
-
-// What a step shows, by its number, its code and whether a log had its cell.
-fn shown_by(step: u8, code: u64, logged: bool) -> Shown
-    ensures { λ r. ⌜ r ≡ shownBy step code logged ⌝ }
-{
-    if code == ABORTED {
-        return Shown::Aborted;
-    }
-    if code != 0 {
-        return Shown::Nothing;
-    }
-    match step {
-        1 => Shown::Begun,
-        2 => read_shown(logged),
-        10 => Shown::Reloaded,
-        12 => Shown::Committed,
-        14 => Shown::Aborted,
-        _ => Shown::Nothing,
-    }
-}
-
-// Puts the first word of an effect's line.
-fn put_word(out: &mut [u8], at: usize, shown: Shown) -> usize
-    ensures { λ r. ⌜ Leaves (addedParts (wordParts shown) (gathered at (now (out .entry)))) r (now (out .exit)) ⌝ }
-{
-    match shown {
-        Shown::Begun => line::put_bytes(out, at, b"at").end_or(at),
-        Shown::Read => line::put_bytes(out, at, b"r").end_or(at),
-        Shown::Reloaded => line::put_bytes(out, at, b"rl").end_or(at),
-        Shown::Committed => line::put_bytes(out, at, b"co").end_or(at),
-        Shown::Aborted => line::put_bytes(out, at, b"ab").end_or(at),
-        Shown::Nothing => at,
-    }
-}
-
-// Puts the cells of a write log.
-fn put_cells(out: &mut [u8], at: usize, own: SlotRecord) -> usize
-    ensures { λ r. ⌜ Leaves (addedParts (cellParts own) (gathered at (now (out .entry)))) r (now (out .exit)) ⌝ }
-{
-    let n = own.writecount as usize;
-    let log = own.writes;
-    let mut end = at;
-    let mut i = 0;
-    while i < SlotRecord::WRITES && i < n {
-        let e = log[i];
-        end = line::put_field(out, end, e.cell as u64).end_or(end);
-        i += 1;
-    }
-    end
-}
-
-// Puts what follows the transaction's number: the cell of a read; the stamp and the written cells of a commit.
-fn put_rest(out: &mut [u8], at: usize, shown: Shown, cell: u8, own: SlotRecord) -> usize
-    ensures { λ r. ⌜ Leaves (addedParts (restParts shown cell own) (gathered at (now (out .entry)))) r (now (out .exit)) ⌝ }
-{
-    if let Shown::Read = shown {
-        return line::put_field(out, at, cell as u64).end_or(at);
-    }
-    let Shown::Committed = shown else {
-        return at;
-    };
-    let end = line::put_field(out, at, own.commit).end_or(at);
-    put_cells(out, end, own)
-}
-
-// Puts the line of what a step has shown.
-fn put_effect(
-    out: &mut [u8],
-    at: usize,
-    shown: Shown,
-    slot: u8,
-    number: u64,
-    cell: u8,
-    own: SlotRecord,
-) -> usize
-    ensures { λ r. ⌜ Leaves (addedParts (effectParts shown slot number cell own) (gathered at (now (out .entry)))) r (now (out .exit)) ⌝ }
-{
-    if let Shown::Nothing = shown {
-        return at;
-    }
-    let word_end = put_word(out, at, shown);
-    let slot_end = line::put_field(out, word_end, slot as u64).end_or(word_end);
-    let number_end = line::put_field(out, slot_end, number).end_or(slot_end);
-    let end = put_rest(out, number_end, shown, cell, own);
-    line::put_bytes(out, end, b"\n").end_or(end)
-}
-
 // Makes the step that 8 bytes say, and puts the line of its effect.
 fn trace_step(area: &mut [u8], step: &[u8], numbers: Numbers, out: &mut [u8], at: usize) -> Traced
     ensures { λ r. ⌜ StepTraced (now (area .entry)) (callOf (now (step .entry))) numbers (now (out .entry)) at r (now (area .exit)) (now (out .exit)) ⌝ }
@@ -249,11 +22,11 @@ fn trace_step(area: &mut [u8], step: &[u8], numbers: Numbers, out: &mut [u8], at
     let kind = apart::byte(step, 0);
     let slot = apart::byte(step, 1);
     let cell = apart::byte(step, 2);
-    let before = look(area, slot, cell);
+    let before = telling::look(area, slot, cell);
     let code = stage::make_step(area, step) / line::CODE;
     let after = numbers.after(kind, slot, code);
-    let shown = shown_by(kind, code, before.logged);
-    let end = put_effect(out, at, shown, slot, after.of(slot), cell, before.own);
+    let shown = telling::shown_by(kind, code, before.logged);
+    let end = telling::put_effect(out, at, shown, slot, after.of(slot), cell, before.own);
     Traced {
         numbers: after,
         end,

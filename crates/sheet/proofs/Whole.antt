@@ -1,15 +1,11 @@
 -- The lines of a good sheet's run all fit.
-use mathlib.Core.Bool.{true, false}
 use mathlib.Core.List.{List, [], _++_}
 use mathlib.Core.Path.{_≡_, ap, _∙_}
-use Prim.Native.Nat.{ℕ, _+_, _-_, _<_, _≤_}
+use Prim.Native.Nat.{ℕ, _+_, _-_, _≤_}
 use native.Mathlib.Omega.{arith}
-use borrow.Author.Tests.{le-leb, lt-leb}
+use borrow.Author.Tests.{le-leb}
 use lib.ListN.{length, take, drop, length-append}
-use lib.Seq.{length-take-le}
-use Rattle.wire.specs.Part.{splice}
 use Rattle.wire.specs.Table.{cat}
-use Rattle.slot.proofs.Logic.{and-intro, and-false}
 use Rattle.line.specs.Gather.{Gathered, gathered, added, addedAll, Leaves}
 use Rattle.line.specs.Line.{clockLine}
 use Rattle.line.proofs.Gather.{front, front-nil, front-added, front-all}
@@ -17,11 +13,9 @@ use Rattle.rules.specs.Model.{controller, cellOffset}
 use Rattle.rules.specs.Layout.{countIn, clockIn}
 use Rattle.area.proofs.Good.{good-of}
 use Rattle.apart.specs.Apart.{steps}
-use Rattle.apart.proofs.Tests.{fails}
-use Rattle.stage.specs.declared.Ran.the-variants.{Written, Short}
+use Rattle.stage.specs.declared.Ran.the-variants.{Written}
 use Rattle.stage.specs.Calls.{stepCount, endArea}
-use Rattle.stage.specs.First.{firstArea, badSheet, mostArea}
-use Rattle.stage.specs.SetUp.{areaFits}
+use Rattle.stage.specs.First.{firstArea, badSheet}
 use Rattle.stage.proofs.First.{Kept}
 use Rattle.stage.proofs.Ready.{ReadySheet, BadSheet}
 use Rattle.stage.proofs.Printing.{good-run}

@@ -6,8 +6,7 @@ use lib.ListN.{length}
 use Rattle.line.specs.Gather.{gathered, addedParts, Leaves}
 use Rattle.line.proofs.Gather.{leaves-none}
 use Rattle.stage.specs.Calls.{areaAfter}
-use Rattle.effects.specs.Parts.{partsOf}
-use Rattle.effects.specs.Steps.{numbersAt, effectsUpTo}
+use Rattle.effects.specs.Steps.{partsOf, numbersAt, effectsUpTo}
 use Rattle.effects.proofs.Steps.{traced-at, area-next, numbers-next, lines-next}
 use Rattle.effects.proofs.trace_steps.Statement.{statement}
 use Rattle.effects.proofs.trace_steps.Tie as tie

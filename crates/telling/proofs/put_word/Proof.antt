@@ -1,8 +1,8 @@
 -- `put_word` meets its contract: a word for each effect.
 use Rattle.line.proofs.Gather.{leaves-one, leaves-none}
 use borrow.Author.Needs.{needs}
-use Rattle.effects.proofs.put_word.Statement.{statement}
-use Rattle.effects.proofs.put_word.Tie as tie
+use Rattle.telling.proofs.put_word.Statement.{statement}
+use Rattle.telling.proofs.put_word.Tie as tie
 
 enum-told : tie.Need-enum-told
 enum-told c = search needs

@@ -1,5 +1,5 @@
 -- `put_cells` meets its contract: before each turn the first `i` cells of the log are put.
-use mathlib.Core.List.{[], _∷_, map}
+use mathlib.Core.List.{[], _∷_}
 use mathlib.Core.Path.{_≡_, refl, _∙_}
 use Prim.Native.Nat.{_-_, _≤_}
 use native.Mathlib.Omega.{arith}
@@ -9,15 +9,14 @@ use Rattle.slot.specs.Layout.{noWrite}
 use Rattle.line.specs.Line.{field}
 use Rattle.line.specs.Gather.{gathered, addedParts, Leaves}
 use Rattle.line.proofs.Gather.{leaves-both, leaves-one, leaves-none}
-use Rattle.effects.specs.Effects.{writtenCells}
-use Rattle.effects.proofs.Fields.{cells-next, cells-all}
+use Rattle.telling.proofs.Fields.{fieldsOf, cells-next, cells-all}
 use borrow.Author.Needs.{needs}
-use Rattle.effects.proofs.put_cells.Statement.{statement}
-use Rattle.effects.proofs.put_cells.Tie as tie
+use Rattle.telling.proofs.put_cells.Statement.{statement}
+use Rattle.telling.proofs.put_cells.Tie as tie
 
 abbrev Inv-loop : tie.InvT-loop
 Inv-loop out₀ at n log end₀ i₀ out end i =
-    (length log ≡ 16) × (length out ≡ length out₀) × (i ≤ 16) × Leaves (addedParts (map field (writtenCells (take i (take n log)))) (gathered at out₀)) end out
+    (length log ≡ 16) × (length out ≡ length out₀) × (i ≤ 16) × Leaves (addedParts (fieldsOf (take i (take n log))) (gathered at out₀)) end out
 
 abbrev μ-loop : tie.MeasureT-loop
 μ-loop out₀ at n log end₀ i₀ out end i = 16 - i

@@ -1,9 +1,9 @@
 -- `look` meets its contract: the slot is looked at where the definition says.
 use mathlib.Core.Path.{refl}
-use Rattle.effects.proofs.Looking.{none-looked, looked}
+use Rattle.telling.proofs.Looking.{none-looked, looked}
 use borrow.Author.Needs.{needs}
-use Rattle.effects.proofs.look.Statement.{statement}
-use Rattle.effects.proofs.look.Tie as tie
+use Rattle.telling.proofs.look.Statement.{statement}
+use Rattle.telling.proofs.look.Tie as tie
 
 byte-requires : tie.Need-byte-requires
 byte-requires c κs = search needs

@@ -1,9 +1,9 @@
 -- `put_effect` meets its contract: each part goes behind those before it.
 use Rattle.line.proofs.Gather.{leaves-both, leaves-one, leaves-none}
-use Rattle.effects.proofs.Fields.{line-parts}
+use Rattle.telling.proofs.Fields.{line-parts}
 use borrow.Author.Needs.{needs}
-use Rattle.effects.proofs.put_effect.Statement.{statement}
-use Rattle.effects.proofs.put_effect.Tie as tie
+use Rattle.telling.proofs.put_effect.Statement.{statement}
+use Rattle.telling.proofs.put_effect.Tie as tie
 
 enum-told : tie.Need-enum-told
 enum-told c = search needs

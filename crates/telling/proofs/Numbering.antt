@@ -7,8 +7,8 @@ use lib.Dec.{eqb, ltb}
 use lib.ListN.{set}
 use Rattle.slot.specs.Logic.{_and_}
 use Rattle.apart.proofs.Tests.{fails, goes-on}
-use Rattle.effects.specs.declared.Numbers.{Numbers}
-use Rattle.effects.specs.Parts.{places, numbersAfter}
+use Rattle.telling.specs.declared.Numbers.{Numbers}
+use Rattle.telling.specs.Parts.{places, numbersAfter}
 
 module _ (v : Numbers) (step slot code : ℕ) where
   -- the four tests

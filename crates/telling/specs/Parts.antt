@@ -1,10 +1,9 @@
--- How a run's effects are made, for any bytes: what is looked at before a step, the numbers that are kept along the way, and the parts of a line in the order in which they are put.
+-- What one step tells, for any bytes: what is looked at before it, the numbers that are kept along the way, and the parts of its line in the order in which they are put.
 use mathlib.Core.Bool.{Bool, true, false, not, cond}
 use mathlib.Core.List.{List, [], _∷_, _++_, map}
-use Prim.Native.Nat.{ℕ, zero, suc, pred, _+_, _-_, _^_}
+use Prim.Native.Nat.{ℕ, pred, _+_, _-_, _^_}
 use lib.Dec.{eqb, ltb, leb}
-use lib.ListN.{length, getD, set, drop, replicate}
-use Rattle.call.specs.Answer.{replyCode}
+use lib.ListN.{length, set, drop, replicate}
 use Rattle.slot.specs.Logic.{_and_, _or_}
 use Rattle.slot.specs.Layout.{empty, slotOf, slotSize}
 use Rattle.slot.specs.Logs.{readLog, writeLog, readsCell, writesCell}
@@ -14,15 +13,14 @@ use Rattle.slot.specs.declared.ReadFound.the-variants as read
 use Rattle.slot.specs.declared.WriteFound.{WriteFound}
 use Rattle.slot.specs.declared.WriteFound.the-variants as write
 use Rattle.slot.specs.declared.SlotRecord.{SlotRecord}
+use Rattle.slot.specs.declared.WriteEntry.{WriteEntry}
 use Rattle.rules.specs.Model.{controller, slotOffset}
 use Rattle.rules.specs.Layout.{countIn}
 use Rattle.line.specs.Line.{newline, field}
-use Rattle.effects.specs.declared.Shown.{Shown}
-use Rattle.effects.specs.declared.Shown.the-variants.{Begun, Read, Reloaded, Committed, Aborted, Nothing}
-use Rattle.effects.specs.declared.Before.{Before}
-use Rattle.effects.specs.declared.Numbers.{Numbers}
-use Rattle.effects.specs.Effects.{Effect, begun, readShared, reloaded, committed, aborted, writtenCells}
-use Rattle.effects.specs.Trace.{effectWord, effectFields}
+use Rattle.telling.specs.declared.Shown.{Shown}
+use Rattle.telling.specs.declared.Shown.the-variants.{Begun, Read, Reloaded, Committed, Aborted, Nothing}
+use Rattle.telling.specs.declared.Before.{Before}
+use Rattle.telling.specs.declared.Numbers.{Numbers}
 
 -- a search has found an entry
 abbrev pub inEither : WriteFound → ReadFound → Bool
@@ -74,23 +72,7 @@ shownBy step code logged =
     (cond (eqb step 14) Aborted
     Nothing))))))
 
-abbrev pub effectBy : Shown → (slot number cell : ℕ) → SlotRecord → List Effect
-effectBy Begun slot number cell v = begun slot number ∷ []
-effectBy Read slot number cell v = readShared slot number cell ∷ []
-effectBy Reloaded slot number cell v = reloaded slot number ∷ []
-effectBy Committed slot number cell v = committed slot number (v .commit) (writtenCells (writeLog v)) ∷ []
-effectBy Aborted slot number cell v = aborted slot number ∷ []
-effectBy Nothing slot number cell v = []
-
--- the parts of lines: the word, each number with a space before it, the newline
-abbrev pub partsOf : List Effect → List (List ℕ)
-partsOf [] = []
-partsOf (x ∷ effects) = (effectWord x ∷ map field (effectFields x)) ++ ((newline ∷ []) ∷ []) ++ partsOf effects
-
--- .. of the line of what a step has shown; and of that line the word, what follows the transaction's number, and of this the cells
-abbrev pub effectParts : Shown → (slot number cell : ℕ) → SlotRecord → List (List ℕ)
-effectParts shown slot number cell v = partsOf (effectBy shown slot number cell v)
-
+-- the parts of a step's line: the word; what follows the transaction's number, and of this the cells
 abbrev pub wordParts : Shown → List (List ℕ)
 wordParts Begun = (97 ∷ 116 ∷ []) ∷ []
 wordParts Read = (114 ∷ []) ∷ []
@@ -100,7 +82,7 @@ wordParts Aborted = (97 ∷ 98 ∷ []) ∷ []
 wordParts Nothing = []
 
 abbrev pub cellParts : SlotRecord → List (List ℕ)
-cellParts v = map field (writtenCells (writeLog v))
+cellParts v = map (λ (e : WriteEntry). field (e .cell)) (writeLog v)
 
 abbrev pub restParts : Shown → ℕ → SlotRecord → List (List ℕ)
 restParts Begun cell v = []
@@ -109,3 +91,16 @@ restParts Reloaded cell v = []
 restParts Committed cell v = field (v .commit) ∷ cellParts v
 restParts Aborted cell v = []
 restParts Nothing cell v = []
+
+-- the word, slot and number and what follows them, each number with a space before it, the newline
+abbrev pub lineParts : Shown → (slot number cell : ℕ) → SlotRecord → List (List ℕ)
+lineParts shown slot number cell v = wordParts shown ++ (field slot ∷ []) ++ (field number ∷ []) ++ restParts shown cell v ++ ((newline ∷ []) ∷ [])
+
+-- .. of what a step has shown, if anything
+abbrev pub effectParts : Shown → (slot number cell : ℕ) → SlotRecord → List (List ℕ)
+effectParts Begun slot number cell v = lineParts Begun slot number cell v
+effectParts Read slot number cell v = lineParts Read slot number cell v
+effectParts Reloaded slot number cell v = lineParts Reloaded slot number cell v
+effectParts Committed slot number cell v = lineParts Committed slot number cell v
+effectParts Aborted slot number cell v = lineParts Aborted slot number cell v
+effectParts Nothing slot number cell v = []

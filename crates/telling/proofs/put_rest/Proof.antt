@@ -2,11 +2,11 @@
 use mathlib.Core.List.{[], _∷_}
 use Rattle.line.specs.Line.{field}
 use Rattle.line.proofs.Gather.{leaves-both, leaves-one, leaves-none}
-use Rattle.effects.specs.Parts.{cellParts}
-use Rattle.effects.proofs.Fields.{no-rest}
+use Rattle.telling.specs.Parts.{cellParts}
+use Rattle.telling.proofs.Fields.{no-rest}
 use borrow.Author.Needs.{needs}
-use Rattle.effects.proofs.put_rest.Statement.{statement}
-use Rattle.effects.proofs.put_rest.Tie as tie
+use Rattle.telling.proofs.put_rest.Statement.{statement}
+use Rattle.telling.proofs.put_rest.Tie as tie
 
 enum-told : tie.Need-enum-told
 enum-told c = search needs

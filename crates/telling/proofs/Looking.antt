@@ -1,8 +1,8 @@
 -- What is looked at before a step.
-use mathlib.Core.Bool.{Bool, true, false}
+use mathlib.Core.Bool.{Bool, false}
 use mathlib.Core.List.{List}
 use mathlib.Core.Option.{Option, none, some}
-use mathlib.Core.Path.{_≡_, refl, sym, _∙_}
+use mathlib.Core.Path.{_≡_, refl}
 use Prim.Native.Nat.{ℕ, pred, _+_, _*_, _<_, _≤_}
 use native.Mathlib.Omega.{arith}
 use borrow.Author.Tests.{le-leb, lt-leb}
@@ -18,9 +18,7 @@ use Rattle.slot.specs.declared.WriteEntry.{WriteEntry}
 use Rattle.slot.specs.declared.WriteFound.{WriteFound}
 use Rattle.slot.proofs.Search.{read-lacks, read-has, write-lacks, write-has}
 use Rattle.packed.specs.Places.{slotIn, withWritesAt, readFoundAt, writeFoundAt}
-use Rattle.rules.specs.Model.{controller}
-use Rattle.effects.specs.declared.Before.{Before}
-use Rattle.effects.specs.Parts.{inEither, slotStart, lookedAt}
+use Rattle.telling.specs.Parts.{inEither, slotStart, lookedAt}
 
 -- what two searches find is whether one of the logs has the cell
 module _ (writes : List WriteEntry) (reads : List ReadEntry) (c : ℕ) where

@@ -1,0 +1,229 @@
+// What one step tells: whether it shows something, the number of its transaction, and the line of it. Any bytes are taken, and any buffers.
+ghost use mathlib.Core.Path.{_≡_};
+ghost use Prim.Native.Nat.{pred};
+ghost use lib.ListN.{getD};
+ghost use Rattle.line.specs.Gather.{Leaves, gathered, addedParts};
+ghost use Rattle.telling.specs.Parts.{shownBy, readShown, inEither, lookedAt, noNumbers, numbersAfter, wordParts, cellParts, restParts, effectParts};
+use area::CELL;
+use area::COUNT;
+use area::HEADER;
+use area::SLOT;
+use area::STAMP;
+use slot::ReadFound;
+use slot::SlotRecord;
+use slot::WriteFound;
+
+// What a step shows.
+pub enum Shown {
+    Begun,
+    Read,
+    Reloaded,
+    Committed,
+    Aborted,
+    Nothing,
+}
+
+// What a step's slot has before it, as far as an effect tells of it: whether a log has the step's cell, and the record with its write log.
+pub struct Before {
+    pub logged: bool,
+    pub own: SlotRecord,
+}
+
+// How many transactions have begun, and the number of each slot's last one, 0 for none. A slot has the place of its own number.
+pub struct Numbers {
+    pub begun: u64,
+    pub last: [u64; Numbers::PLACES],
+}
+
+// The step that begins a transaction, and the outcome that ends one without commit.
+const BEGIN: u8 = 1;
+
+const ABORTED: u64 = 13;
+
+impl Numbers {
+    pub const PLACES: usize = 9;
+
+    // The last number that there is: the count stays there, and never wraps.
+    const LAST: u64 = 18446744073709551615;
+
+    pub fn none() -> Self
+        ensures { λ r. ⌜ r ≡ noNumbers ⌝ }
+    {
+        Numbers {
+            begun: 0,
+            last: [0; Numbers::PLACES],
+        }
+    }
+
+    // The number of a slot's transaction.
+    pub fn of(self, slot: u8) -> u64
+        ensures { λ r. ⌜ r ≡ getD (self .last) slot 0 ⌝ }
+    {
+        let at = slot as usize;
+        if at < Numbers::PLACES {
+            return self.last[at];
+        }
+        0
+    }
+
+    // After a step: an accepted begin gives its slot the next number.
+    pub fn after(mut self, step: u8, slot: u8, code: u64) -> Self
+        ensures { λ r. ⌜ r ≡ numbersAfter self step slot code ⌝ }
+    {
+        if step != BEGIN {
+            return self;
+        }
+        if code != 0 {
+            return self;
+        }
+        let at = slot as usize;
+        if Numbers::PLACES <= at {
+            return self;
+        }
+        if self.begun == Numbers::LAST {
+            return self;
+        }
+        self.begun += 1;
+        self.last[at] = self.begun;
+        self
+    }
+}
+
+// The place of a slot among the slots, counted from 0.
+fn index(slot: u8) -> u8
+    ensures { λ r. ⌜ r ≡ pred slot ⌝ }
+{
+    if slot == 0 {
+        return 0;
+    }
+    slot - 1
+}
+
+// Whether a search of one of the logs has found an entry.
+fn in_either(written: WriteFound, read: ReadFound) -> bool
+    ensures { λ r. ⌜ r ≡ inEither written read ⌝ }
+{
+    if let WriteFound::Entry(e) = written {
+        return true;
+    }
+    if let ReadFound::Entry(e) = read {
+        return true;
+    }
+    false
+}
+
+// Looks at a slot, and at whether a log of it has the cell. An area that is too short for the slot, which no run has, shows nothing.
+pub fn look(area: &[u8], slot: u8, cell: u8) -> Before
+    ensures { λ r. ⌜ r ≡ lookedAt (now (area .entry)) slot cell ⌝ }
+{
+    let cells = apart::byte(area, COUNT) as usize;
+    let at = HEADER + CELL * cells + SLOT * (index(slot) as usize);
+    if area.len() < at + SLOT {
+        return Before {
+            logged: false,
+            own: SlotRecord::empty(),
+        };
+    }
+    let written = packed::find_write(area, at, STAMP, cell);
+    let read = packed::find_read(area, at, STAMP, cell);
+    Before {
+        logged: in_either(written, read),
+        own: packed::with_writes(area, at, STAMP),
+    }
+}
+
+// What an accepted read shows: nothing if it was answered from a log.
+fn read_shown(logged: bool) -> Shown
+    ensures { λ r. ⌜ r ≡ readShown logged ⌝ }
+{
+    if logged {
+        return Shown::Nothing;
+    }
+    Shown::Read
+}
+
+// What a step shows, by its number, its code and whether a log had its cell.
+pub fn shown_by(step: u8, code: u64, logged: bool) -> Shown
+    ensures { λ r. ⌜ r ≡ shownBy step code logged ⌝ }
+{
+    if code == ABORTED {
+        return Shown::Aborted;
+    }
+    if code != 0 {
+        return Shown::Nothing;
+    }
+    match step {
+        1 => Shown::Begun,
+        2 => read_shown(logged),
+        10 => Shown::Reloaded,
+        12 => Shown::Committed,
+        14 => Shown::Aborted,
+        _ => Shown::Nothing,
+    }
+}
+
+// Puts the first word of an effect's line.
+fn put_word(out: &mut [u8], at: usize, shown: Shown) -> usize
+    ensures { λ r. ⌜ Leaves (addedParts (wordParts shown) (gathered at (now (out .entry)))) r (now (out .exit)) ⌝ }
+{
+    match shown {
+        Shown::Begun => line::put_bytes(out, at, b"at").end_or(at),
+        Shown::Read => line::put_bytes(out, at, b"r").end_or(at),
+        Shown::Reloaded => line::put_bytes(out, at, b"rl").end_or(at),
+        Shown::Committed => line::put_bytes(out, at, b"co").end_or(at),
+        Shown::Aborted => line::put_bytes(out, at, b"ab").end_or(at),
+        Shown::Nothing => at,
+    }
+}
+
+// Puts the cells of a write log.
+fn put_cells(out: &mut [u8], at: usize, own: SlotRecord) -> usize
+    ensures { λ r. ⌜ Leaves (addedParts (cellParts own) (gathered at (now (out .entry)))) r (now (out .exit)) ⌝ }
+{
+    let n = own.writecount as usize;
+    let log = own.writes;
+    let mut end = at;
+    let mut i = 0;
+    while i < SlotRecord::WRITES && i < n {
+        let e = log[i];
+        end = line::put_field(out, end, e.cell as u64).end_or(end);
+        i += 1;
+    }
+    end
+}
+
+// Puts what follows the transaction's number: the cell of a read; the stamp and the written cells of a commit.
+fn put_rest(out: &mut [u8], at: usize, shown: Shown, cell: u8, own: SlotRecord) -> usize
+    ensures { λ r. ⌜ Leaves (addedParts (restParts shown cell own) (gathered at (now (out .entry)))) r (now (out .exit)) ⌝ }
+{
+    if let Shown::Read = shown {
+        return line::put_field(out, at, cell as u64).end_or(at);
+    }
+    let Shown::Committed = shown else {
+        return at;
+    };
+    let end = line::put_field(out, at, own.commit).end_or(at);
+    put_cells(out, end, own)
+}
+
+// Puts the line of what a step has shown.
+pub fn put_effect(
+    out: &mut [u8],
+    at: usize,
+    shown: Shown,
+    slot: u8,
+    number: u64,
+    cell: u8,
+    own: SlotRecord,
+) -> usize
+    ensures { λ r. ⌜ Leaves (addedParts (effectParts shown slot number cell own) (gathered at (now (out .entry)))) r (now (out .exit)) ⌝ }
+{
+    if let Shown::Nothing = shown {
+        return at;
+    }
+    let word_end = put_word(out, at, shown);
+    let slot_end = line::put_field(out, word_end, slot as u64).end_or(word_end);
+    let number_end = line::put_field(out, slot_end, number).end_or(slot_end);
+    let end = put_rest(out, number_end, shown, cell, own);
+    line::put_bytes(out, end, b"\n").end_or(end)
+}
