@@ -21,7 +21,7 @@ use Rattle.telling.specs.declared.Before.{Before}
 use Rattle.telling.specs.declared.Numbers.{Numbers}
 use Rattle.telling.specs.declared.Shown.{Shown}
 use Rattle.telling.specs.declared.Shown.the-variants.{Begun, Read, Reloaded, Committed, Aborted, Nothing}
-use Rattle.telling.specs.Parts.{lookedAt, numbersAfter, shownBy, effectParts}
+use Rattle.telling.specs.Parts.{lookedAt, numbersAfter, effectParts, stepParts}
 use Rattle.effects.specs.declared.Traced.{Traced}
 use Rattle.effects.specs.Effects.{Effect}
 use Rattle.effects.specs.Steps.{effectBy, partsOf, effectOn, numbersAt, effectsUpTo, StepTraced}
@@ -36,18 +36,18 @@ told-parts Aborted slot number cell v = refl
 told-parts Nothing slot number cell v = refl
 
 -- one step: what was looked at before it, and its code
-pub step-traced : (a step out : List ℕ) (v : Numbers) (at : ℕ) {kind slot cell r number end : ℕ} {before : Before} {after : Numbers} {shown : Shown} {b t : List ℕ}
+pub step-traced : (a step out : List ℕ) (v : Numbers) (at : ℕ) {kind slot cell r number end : ℕ} {before : Before} {after : Numbers} {b t : List ℕ}
     → kind ≡ byteAt step 0 → slot ≡ byteAt step 1 → cell ≡ byteAt step 2 → before ≡ lookedAt a slot cell → Stepped a (callOf step) r b
-    → after ≡ numbersAfter v kind slot (r / 2 ^ 40) → shown ≡ shownBy kind (r / 2 ^ 40) (before .logged) → number ≡ getD (after .last) slot 0
-    → Leaves (addedParts (effectParts shown slot number cell (before .own)) (gathered at out)) end t
+    → after ≡ numbersAfter v kind slot (r / 2 ^ 40) → number ≡ getD (after .last) slot 0
+    → Leaves (addedParts (stepParts before kind (r / 2 ^ 40) slot number cell) (gathered at out)) end t
     → StepTraced a (callOf step) v out at (record { numbers = after; end = end }) b t
 unfolding callOf effectOn
-step-traced a step out v at kind slot cell looked made counted shown number lines =
+step-traced a step out v at kind slot cell looked made counted number lines =
     let code = demand1 .code a (callOf step) _ _ made in
     record {
       area = made .bytes;
       numbers = rw (kind, slot, code) at counted;
-      lines = rw (told-parts, number, shown, counted, looked, kind, slot, cell, code) at lines;
+      lines = rw (told-parts, number, counted, looked, kind, slot, cell, code) at lines;
     }
 
 -- the 8 bytes of step k stand at 8 × k

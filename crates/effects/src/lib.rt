@@ -25,8 +25,7 @@ fn trace_step(area: &mut [u8], step: &[u8], numbers: Numbers, out: &mut [u8], at
     let before = telling::look(area, slot, cell);
     let code = stage::make_step(area, step) / line::CODE;
     let after = numbers.after(kind, slot, code);
-    let shown = telling::shown_by(kind, code, before.logged);
-    let end = telling::put_effect(out, at, shown, slot, after.of(slot), cell, before.own);
+    let end = telling::put_line(out, at, before, kind, code, slot, after.of(slot), cell);
     Traced {
         numbers: after,
         end,

@@ -104,3 +104,7 @@ effectParts Reloaded slot number cell v = lineParts Reloaded slot number cell v
 effectParts Committed slot number cell v = lineParts Committed slot number cell v
 effectParts Aborted slot number cell v = lineParts Aborted slot number cell v
 effectParts Nothing slot number cell v = []
+
+-- .. of a step, by its number, its code and what its slot had before
+abbrev pub stepParts : Before → (step code slot number cell : ℕ) → List (List ℕ)
+stepParts before step code slot number cell = effectParts (shownBy step code (before .logged)) slot number cell (before .own)

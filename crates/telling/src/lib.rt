@@ -3,7 +3,7 @@ ghost use mathlib.Core.Path.{_≡_};
 ghost use Prim.Native.Nat.{pred};
 ghost use lib.ListN.{getD};
 ghost use Rattle.line.specs.Gather.{Leaves, gathered, addedParts};
-ghost use Rattle.telling.specs.Parts.{shownBy, readShown, inEither, lookedAt, noNumbers, numbersAfter, wordParts, cellParts, restParts, effectParts};
+ghost use Rattle.telling.specs.Parts.{shownBy, readShown, inEither, lookedAt, noNumbers, numbersAfter, wordParts, cellParts, restParts, effectParts, stepParts};
 use area::CELL;
 use area::COUNT;
 use area::HEADER;
@@ -143,7 +143,7 @@ fn read_shown(logged: bool) -> Shown
 }
 
 // What a step shows, by its number, its code and whether a log had its cell.
-pub fn shown_by(step: u8, code: u64, logged: bool) -> Shown
+fn shown_by(step: u8, code: u64, logged: bool) -> Shown
     ensures { λ r. ⌜ r ≡ shownBy step code logged ⌝ }
 {
     if code == ABORTED {
@@ -207,7 +207,7 @@ fn put_rest(out: &mut [u8], at: usize, shown: Shown, cell: u8, own: SlotRecord) 
 }
 
 // Puts the line of what a step has shown.
-pub fn put_effect(
+fn put_effect(
     out: &mut [u8],
     at: usize,
     shown: Shown,
@@ -226,4 +226,21 @@ pub fn put_effect(
     let number_end = line::put_field(out, slot_end, number).end_or(slot_end);
     let end = put_rest(out, number_end, shown, cell, own);
     line::put_bytes(out, end, b"\n").end_or(end)
+}
+
+// Puts the line of a step of this number in this slot, by its code and what its slot had before, if it shows anything.
+pub fn put_line(
+    out: &mut [u8],
+    at: usize,
+    before: Before,
+    step: u8,
+    code: u64,
+    slot: u8,
+    number: u64,
+    cell: u8,
+) -> usize
+    ensures { λ r. ⌜ Leaves (addedParts (stepParts before step code slot number cell) (gathered at (now (out .entry)))) r (now (out .exit)) ⌝ }
+{
+    let shown = shown_by(step, code, before.logged);
+    put_effect(out, at, shown, slot, number, cell, before.own)
 }

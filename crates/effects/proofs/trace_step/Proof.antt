@@ -22,14 +22,11 @@ make-step-requires c κs = search needs
 after-requires : tie.Need-after-requires
 after-requires c κs = search needs
 
-shown-by-requires : tie.Need-shown-by-requires
-shown-by-requires c κs = search needs
-
 of-requires : tie.Need-of-requires
 of-requires c κs = search needs
 
-put-effect-requires : tie.Need-put-effect-requires
-put-effect-requires c κs = search needs
+put-line-requires : tie.Need-put-line-requires
+put-line-requires c κs = search needs
 
 same-length : tie.Need-same-length
 same-length c = search needs
@@ -39,9 +36,8 @@ same-length-2 c = search needs
 
 returns : tie.Need-returns
 returns c =
-    let c : tie.After-put-effect = search in let lines = c .put-effect .ensures in
+    let c : tie.After-put-line = search in let lines = c .put-line .ensures in
     let c : tie.After-of = search in let number = c .of .ensures in
-    let c : tie.After-shown-by = search in let shown = c .shown-by .ensures in
     let c : tie.After-after = search in let counted = c .after .ensures in
     let c : tie.After-make-step = search in let made = c .make-step .ensures in
     let c : tie.After-look = search in let looked = c .look .ensures in
@@ -49,7 +45,7 @@ returns c =
     let c : tie.After-byte2 = search in let slot = c .byte2 .ensures in
     let c : tie.After-byte = search in let kind = c .byte .ensures in
     let c : tie.Start = search in
-    step-traced (c .args .area .now) (c .args .step .now) (c .args .out .now) (c .args .numbers) (c .args .at) kind slot cell looked made counted shown number lines
+    step-traced (c .args .area .now) (c .args .step .now) (c .args .out .now) (c .args .numbers) (c .args .at) kind slot cell looked made counted number lines
 
 pub trace-step-spec : {M : Type 1} → statement M
 trace-step-spec =
@@ -61,9 +57,8 @@ trace-step-spec =
     look-requires
     make-step-requires
     after-requires
-    shown-by-requires
     of-requires
-    put-effect-requires
+    put-line-requires
     same-length
     same-length-2
     returns)
