@@ -14,7 +14,7 @@ use std::process::ExitCode;
 use oracle::compare::{
     compare, Case, Failure, Plan, Process, Stopped, Tally, LEAST_COUNTS_ARE_FOR,
 };
-use oracle::{run, text};
+use oracle::{forms, text};
 
 const USAGE: &str = "usage: compare PROGRAM EXAMPLES [seed=N] [sheets=N] [keep=FILE]\n\
     least counts are judged from sheets=2000 on, which is the usual number";
@@ -92,7 +92,7 @@ fn examples(folder: &Path) -> Result<Vec<Case>, String> {
 
 fn example(file: &Path) -> Result<Case, String> {
     let mut bytes = fs::read(file).map_err(|error| error.to_string())?;
-    if run::looks_like_text(&bytes) {
+    if forms::looks_like_text(&bytes) {
         let sheet = text::assemble(&bytes).map_err(|error| error.to_string())?;
         bytes = sheet.encode();
     }
