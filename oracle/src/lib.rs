@@ -44,6 +44,7 @@ pub mod wellformed;
 
 mod bytes;
 mod counts;
+mod filling;
 mod ignores;
 mod obstacles;
 mod record;
