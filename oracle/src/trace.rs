@@ -1,4 +1,4 @@
-//! The effects of a sheet's run, a line each.
+//! The effects of a sheet's run, a line each: request #104.
 //!
 //! A step has an effect or is silent. Silent are all refused steps, the reads
 //! that a log answers, and all accepted steps but begin, reload, a finish and

@@ -70,22 +70,26 @@ fn measure_on(
 ) -> Result<[f64; 2], String> {
     let file = folder.join(format!("{steps}-steps.sheet"));
     fs::write(&file, sheet).map_err(|error| format!("{}: {error}", file.display()))?;
-    // It is built into the same folder as this program.
-    let here = env::current_exe().map_err(|error| error.to_string())?;
-    let oracle = here.with_file_name("sheet");
-    let [run, trace] = programs;
-    let mut pairs =
-        [Pair::new(Program::Run, run, &oracle), Pair::new(Program::Trace, trace, &oracle)];
-    // All take turns: what else the machine does is then the same for each.
-    for _ in 0..TIMES {
-        pairs.iter_mut().try_for_each(|pair| pair.take_turn(&file))?;
-    }
+    let pairs = best_times(programs, &file)?;
     for (pair, command) in pairs.iter().zip(Program::BOTH) {
         let (program, oracle) = (milliseconds(pair.program.1), milliseconds(pair.oracle.1));
         let ratio = program / oracle;
         println!("{steps:5}  {command:7}  {program:7.2}  {oracle:6.2}  {ratio:5.2}");
     }
     Ok(pairs.map(|pair| milliseconds(pair.program.1)))
+}
+
+/// All take turns: what else the machine does is then the same for each.
+fn best_times([run, trace]: [&str; 2], file: &Path) -> Result<[Pair; 2], String> {
+    // It is built into the same folder as this program.
+    let here = env::current_exe().map_err(|error| error.to_string())?;
+    let oracle = here.with_file_name("sheet");
+    let mut pairs =
+        [Pair::new(Program::Run, run, &oracle), Pair::new(Program::Trace, trace, &oracle)];
+    for _ in 0..TIMES {
+        pairs.iter_mut().try_for_each(|pair| pair.take_turn(file))?;
+    }
+    Ok(pairs)
 }
 
 impl Pair {

@@ -57,7 +57,7 @@ pub type Run<'a> = dyn FnMut(Program, &Case) -> Result<Given, String> + 'a;
 pub struct Plan {
     /// Equal seeds draw equal sheets.
     pub seed: u64,
-    /// How many sheets with a commit.
+    /// How many sheets.
     pub sheets: u64,
 }
 

@@ -85,6 +85,7 @@ fn repeated(name: &str, round: &[Step]) -> Case {
 
 /// So many transactions that do nothing, then such as read all that a log has
 /// room for, in cells of two digits. A slot gives up when it is its turn again.
+/// What a sheet has no room for is cut off.
 fn many_reads(name: &str, idlers: usize) -> Case {
     let mut steps = Steps::default();
     let cells: Vec<u8> = (ALL_CELLS - ROOM..ALL_CELLS).collect();
@@ -174,13 +175,13 @@ fn from_the_logs() -> Case {
     let mut steps = Steps::default();
     for slot in [1, 2, 1] {
         steps.add(Begin, slot, 0);
-        for (step, cell) in [(Read, 0), (Read, 0), (Write, 1), (Read, 1), (Write, 0), (Read, 0)] {
-            steps.add(step, slot, cell);
-        }
-        steps.each(Read, slot, &[2, 1, 2]);
-        if slot == 2 {
-            steps.add(GiveUp, 1, 0);
-        }
+        steps.each(Read, slot, &[0, 0]);
+        steps.add(Write, slot, 1);
+        steps.add(Read, slot, 1);
+        steps.add(Write, slot, 0);
+        steps.each(Read, slot, &[0, 2, 1, 2]);
+        // So slot 1 still has its logs in the turn of slot 2.
+        steps.add(GiveUp, 3 - slot, 0);
     }
     steps.on_cells("reads from the logs", 3)
 }

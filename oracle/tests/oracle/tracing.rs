@@ -44,12 +44,12 @@ impl Seen<'_> {
         self.before.flag(self.call.slot) == 1
     }
 
-    pub fn from_the_write_log(&self) -> bool {
+    pub fn is_from_the_write_log(&self) -> bool {
         self.is(2, 0) && self.written().contains(&self.call.cell.into())
     }
 
     /// Also if the write log has the cell and has answered.
-    pub fn from_the_read_log(&self) -> bool {
+    pub fn is_from_the_read_log(&self) -> bool {
         let cells = || self.before.read_cells(self.call.slot);
         self.is(2, 0) && cells().contains(&self.call.cell.into())
     }
@@ -104,7 +104,7 @@ pub fn numbers(cells: Vec<usize>) -> Vec<u64> {
 pub fn effect(seen: &Seen) -> Told {
     match (seen.call.step, seen.code) {
         (1, 0) => Some(("at", Vec::new())),
-        (2, 0) if seen.from_the_write_log() || seen.from_the_read_log() => None,
+        (2, 0) if seen.is_from_the_write_log() || seen.is_from_the_read_log() => None,
         (2, 0) => Some(("r", vec![seen.call.cell.into()])),
         (10, 0) => Some(("rl", Vec::new())),
         (12, 0) => Some(("co", [vec![seen.stamp()], seen.written()].concat())),

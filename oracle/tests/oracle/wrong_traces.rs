@@ -5,10 +5,16 @@ use oracle::compare::{edge_sheets, random_sheet, Case, Given, Program};
 use crate::comparing::{compared_one, prints};
 use crate::tracing::{effect, number, numbers, traced, Seen, Told};
 
+type Tracer = Box<dyn Fn(&Case) -> Given>;
+type Effect = fn(&Seen) -> Told;
+type Commit = fn(&Seen) -> Vec<u64>;
+type Number = fn(&Seen) -> u64;
+type Writer = fn(String) -> String;
+
 /// With a wrong look at one of the steps.
-const WRONG_EFFECTS: [(&str, fn(&Seen) -> Told); 27] = [
-    ("reads from the read log shown", |seen| also(seen, seen.from_the_read_log(), "r")),
-    ("reads from the write log shown", |seen| also(seen, seen.from_the_write_log(), "r")),
+const WRONG_EFFECTS: [(&str, Effect); 27] = [
+    ("reads from the read log shown", |seen| also(seen, seen.is_from_the_read_log(), "r")),
+    ("reads from the write log shown", |seen| also(seen, seen.is_from_the_write_log(), "r")),
     ("refused reads shown", |seen| also(seen, seen.call.step == 2 && seen.code > 3, "r")),
     ("rereads shown", |seen| also(seen, seen.is(7, 0), "r")),
     ("refused begin shown", |seen| also(seen, seen.is(1, 4), "at")),
@@ -40,7 +46,7 @@ const WRONG_EFFECTS: [(&str, fn(&Seen) -> Told); 27] = [
 ];
 
 /// With something else behind the number of a commit.
-const WRONG_COMMITS: [(&str, fn(&Seen) -> Vec<u64>); 13] = [
+const WRONG_COMMITS: [(&str, Commit); 13] = [
     ("the clock for the stamp", |seen| with(seen.after.clock(), seen.written())),
     ("the start for the stamp", |seen| with(seen.before.start(seen.call.slot), seen.written())),
     ("the stamp of enter after a reload", |seen| with(seen.entered(), seen.written())),
@@ -67,7 +73,7 @@ const WRONG_COMMITS: [(&str, fn(&Seen) -> Vec<u64>); 13] = [
 ];
 
 /// With another number for the transaction.
-const WRONG_NUMBERS: [(&str, fn(&Seen) -> u64); 7] = [
+const WRONG_NUMBERS: [(&str, Number); 7] = [
     ("numbers from 0", |seen| number(seen) - 1),
     ("refused begins counted", |seen| seen.number_by(|_, _| true)),
     ("begins counted that a slot refuses", |seen| seen.number_by(|_, code| [0, 4].contains(&code))),
@@ -82,7 +88,7 @@ const WRONG_NUMBERS: [(&str, fn(&Seen) -> u64); 7] = [
 ];
 
 /// With a wrong way to write the lines.
-const WRONG_WRITERS: [(&str, fn(String) -> String); 11] = [
+const WRONG_WRITERS: [(&str, Writer); 11] = [
     ("a space at the end", |trace| trace.replace('\n', " \n")),
     ("a space behind the stamp of no cell", |trace| {
         each_line(&trace, |fields| match fields {
@@ -135,8 +141,8 @@ const WRONG_WRITERS: [(&str, fn(String) -> String); 11] = [
     ("room for 10 bytes a step", |trace| trace.chars().take(40_960).collect()),
 ];
 
-/// These show in long sheets alone, which no random one is of, or in a run that
-/// has no effect.
+/// These show where there are more transactions, stamps or lines than in a random
+/// sheet.
 const BEYOND_RANDOM_SHEETS: [&str; 5] = [
     "numbers in a byte",
     "numbers of three digits",
@@ -169,26 +175,32 @@ fn each_line(trace: &str, line: fn(&[&str]) -> String) -> String {
 }
 
 /// All of them, with their names.
-fn wrong_tracers() -> Vec<(&'static str, Box<dyn Fn(&Case) -> Given>)> {
-    let mut all: Vec<(&str, Box<dyn Fn(&Case) -> Given>)> = Vec::new();
-    for (name, wrong) in WRONG_EFFECTS {
-        all.push((name, Box::new(move |case| traced(case, &wrong, number))));
-    }
-    for (name, wrong) in WRONG_COMMITS {
-        let told = move |seen: &Seen| match seen.commits() {
-            true => Some(("co", wrong(seen))),
-            false => effect(seen),
-        };
-        all.push((name, Box::new(move |case| traced(case, &told, number))));
-    }
-    for (name, wrong) in WRONG_NUMBERS {
-        all.push((name, Box::new(move |case| traced(case, &effect, wrong))));
-    }
-    for (name, wrong) in WRONG_WRITERS {
-        let right = |case: &Case| Program::Trace.wanted(&case.bytes);
-        all.push((name, Box::new(move |case| prints(wrong(right(case))))));
-    }
-    all
+fn wrong_tracers() -> Vec<(&'static str, Tracer)> {
+    let effects = WRONG_EFFECTS.map(|(name, wrong)| (name, with_effect(wrong)));
+    let commits = WRONG_COMMITS.map(|(name, wrong)| (name, with_commit(wrong)));
+    let numbers = WRONG_NUMBERS.map(|(name, wrong)| (name, with_number(wrong)));
+    let writers = WRONG_WRITERS.map(|(name, wrong)| (name, with_writer(wrong)));
+    effects.into_iter().chain(commits).chain(numbers).chain(writers).collect()
+}
+
+fn with_effect(wrong: Effect) -> Tracer {
+    Box::new(move |case| traced(case, &wrong, number))
+}
+
+fn with_commit(wrong: Commit) -> Tracer {
+    let told = move |seen: &Seen| match seen.commits() {
+        true => Some(("co", wrong(seen))),
+        false => effect(seen),
+    };
+    Box::new(move |case| traced(case, &told, number))
+}
+
+fn with_number(wrong: Number) -> Tracer {
+    Box::new(move |case| traced(case, &effect, wrong))
+}
+
+fn with_writer(wrong: Writer) -> Tracer {
+    Box::new(move |case| prints(wrong(Program::Trace.wanted(&case.bytes))))
 }
 
 /// By the sheets at the edges alone, without a random one.
