@@ -5,11 +5,13 @@
 # make guide-sheets: runs the step sheets in docs/GUIDE.md, and compares what they print.
 # make fuzz:    random calls at the C functions against the second program (CALLS, SEED), or one ROUND of a seed again.
 # make bench:   the ratio to the Rust yardstick, the stack and the instructions of each step and of the wear task, the time of a sheet.
+# make program: proves and builds the programs that run and that trace step sheets.
 # make run:     proves and builds the program that runs step sheets, and runs SHEET (text or binary) on it.
+# make trace:   the same with the program that traces them: the effects of SHEET's run, a line each.
 # make sheet:   runs SHEET on the second program.
 # make timeline: the run of SHEET in lanes, as text or (SVG=file.svg) as a picture.
 # make second:  builds the second program, in oracle/.
-# make sheets-test: compares the two programs on the examples, on bad sheets and on random ones (SEED).
+# make sheets-test: compares run and trace with the second program on the examples, on bad sheets and on random ones (SEED).
 SHEET ?= examples/sheets/s.txt
 CALLS ?= 2000000
 SEED ?= 1
@@ -23,13 +25,14 @@ sources = $(shell find crates.txt $(wildcard $(foreach part,src specs proofs,$(p
 STRICT := -pedantic -Wall -Wextra -Werror -O2 -Iinclude
 LINKED := oracle/linked/target/release
 PROGRAM := target/bin/run
+TRACER := target/bin/trace
 SECOND := oracle/target/release
 # the crates that ask nothing of a caller
-BOUNDARIES := value call line apart sheet run crocktendril wear
+BOUNDARIES := value call line apart stage sheet run effects trace crocktendril wear
 # the blocks of the guide that are marked so, one behind the other
 blocks = awk '/^```$(1)$$/ { on = 1; next } /^```$$/ { on = 0 } on' docs/GUIDE.md
 
-.PHONY: test lib program example guide guide-sheets fuzz bench run sheet timeline second linked linked-test sheets-test
+.PHONY: test lib program proved-run proved-trace example guide guide-sheets fuzz bench run trace sheet timeline second linked linked-test sheets-test
 
 test:
 	@echo "== layout of the sources"
@@ -59,9 +62,11 @@ $(LIBRARY): $(call sources,crocktendril)
 $(WEAR): $(call sources,wear)
 	rt staticlib wear
 
-program:
-	@echo "== the program that runs step sheets: proofs and build (minutes from nothing, seconds if nothing has changed)"
-	rt check run
+program: proved-run proved-trace
+
+proved-run proved-trace: proved-%:
+	@echo "== the program $*, for step sheets: proofs and build (minutes from nothing, seconds if nothing has changed)"
+	rt check $*
 
 # The libraries link in either order.
 example: $(LIBRARY) $(WEAR)
@@ -115,10 +120,10 @@ linked-test: lib linked sheets-test guide-sheets
 	cd oracle/linked && cargo fmt --check
 	$(LINKED)/fuzz seed=$(SEED)
 
-# A sheet that the two programs answer differently is kept in target/sheets/failed.sheet.
+# A sheet that a program answers otherwise than the second one is kept in target/sheets/failed.sheet.
 sheets-test: program second
 	@mkdir -p target/sheets
-	$(SECOND)/compare $(PROGRAM) examples/sheets seed=$(SEED) keep=target/sheets/failed.sheet
+	$(SECOND)/compare $(PROGRAM) $(TRACER) examples/sheets seed=$(SEED) keep=target/sheets/failed.sheet
 
 fuzz: lib linked
 	$(LINKED)/fuzz calls=$(CALLS) seed=$(SEED) $(if $(ROUND),round=$(ROUND))
@@ -127,16 +132,17 @@ bench: lib linked second
 	@mkdir -p target/c target/sheets
 	gcc -std=c99 $(STRICT) oracle/linked/measure.c $(WEAR) $(LIBRARY) -Wl,-z,now -o target/c/measure
 	$(LINKED)/bench
-	$(SECOND)/sheet_time $(PROGRAM) target/sheets
+	$(SECOND)/sheet_time $(PROGRAM) $(TRACER) target/sheets
 	{ $(LINKED)/bench cases; $(LINKED)/bench sheet; } | target/c/measure stack
 	$(LINKED)/bench wear | target/c/measure wear-stack
 	python3 oracle/linked/instructions.py $(LINKED)/bench target/c/measure
 
-run: program second
+# The program is called as the target is.
+run trace: %: proved-% second
 	@mkdir -p target/sheets
 	$(SECOND)/sheet assemble "$(SHEET)" > target/sheets/assembled
-	mv target/sheets/assembled target/sheets/run.sheet
-	$(PROGRAM) < target/sheets/run.sheet
+	mv target/sheets/assembled target/sheets/$@.sheet
+	target/bin/$@ < target/sheets/$@.sheet
 
 sheet: second
 	$(SECOND)/sheet run "$(SHEET)"

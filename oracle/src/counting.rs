@@ -18,6 +18,11 @@ pub enum Tasks {
         /// Slots 1 to this are in use.
         slots: u8,
     },
+    /// They write as many cells as a log has room for.
+    FillLogs {
+        /// Slots 1 to this are in use.
+        slots: u8,
+    },
 }
 
 impl Random {
@@ -30,11 +35,13 @@ impl Random {
         }
     }
 
-    /// Values for so many cells; for counting up, wholes.
+    /// Values for so many cells; for counting up and for filling logs, wholes.
     pub fn values_for(&mut self, tasks: Tasks, count: usize) -> Vec<Value> {
         match tasks {
             Tasks::Any(_) => self.values(count),
-            Tasks::CountUp { .. } => (0..count).map(|_| self.value(Kind::Whole)).collect(),
+            Tasks::CountUp { .. } | Tasks::FillLogs { .. } => {
+                (0..count).map(|_| self.value(Kind::Whole)).collect()
+            }
         }
     }
 
@@ -43,6 +50,7 @@ impl Random {
         match tasks {
             Tasks::Any(habit) => self.likely_call(machine, habit),
             Tasks::CountUp { slots } => self.counting_call(machine, slots),
+            Tasks::FillLogs { slots } => self.filling_call(machine, slots),
         }
     }
 

@@ -1,6 +1,7 @@
 //! A second program for the transaction core of document 01 with requests #102
-//! (who is in the way) and #103 (ignoring loses no update) of document 02, and
-//! for the wear task of request #101 on top of it.
+//! (who is in the way) and #103 (ignoring loses no update) of document 02, for
+//! the wear task of request #101 on top of it, and for the effect traces of
+//! request #104.
 //!
 //! It shares no code and no data structure with the core it is compared with:
 //! a slot is idle or has a [`Transaction`], the holder of a cell is worked out
@@ -15,9 +16,9 @@
 //! - [`step_in_place`] and [`wear_in_place`] make the same on the bytes
 //!   themselves, as a yardstick of time, and [`fuzz`] compares a library with
 //!   this one.
-//! - [`Sheet`] is a step sheet, with a binary form and a [`text`] form, and
-//!   [`run`] makes its output; [`compare`] compares a program that runs sheets
-//!   with it, and [`Timeline`] draws the run.
+//! - [`Sheet`] is a step sheet, with a binary form and a [`text`] form; [`run`]
+//!   makes its output and [`trace`] the effects of its run. [`compare`] compares
+//!   a program for each of the two with them, and [`Timeline`] draws the run.
 
 #![forbid(unsafe_code)]
 #![warn(missing_docs)]
@@ -27,6 +28,7 @@ pub mod binary;
 pub mod call;
 pub mod compare;
 pub mod counting;
+pub mod forms;
 pub mod fuzz;
 pub mod generate;
 pub mod inplace;
@@ -35,12 +37,14 @@ pub mod random;
 pub mod run;
 pub mod text;
 pub mod timeline;
+pub mod trace;
 pub mod value;
 pub mod wear;
 pub mod wellformed;
 
 mod bytes;
 mod counts;
+mod filling;
 mod ignores;
 mod obstacles;
 mod record;

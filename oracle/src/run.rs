@@ -4,11 +4,9 @@ use std::fmt::Write;
 
 use crate::binary::Sheet;
 use crate::call::Reply;
+use crate::forms::{self, BAD_SHEET};
 use crate::machine::Machine;
-use crate::text::{self, TextError};
-
-/// What a bad sheet prints.
-pub const BAD_SHEET: &str = "bad sheet\n";
+use crate::text::TextError;
 
 /// The output of a sheet: a line per step, a line per cell, and the clock.
 pub fn run(sheet: &Sheet) -> String {
@@ -26,24 +24,12 @@ pub fn run(sheet: &Sheet) -> String {
 
 /// The output of a sheet in binary form, which may be a bad one.
 pub fn run_binary(bytes: &[u8]) -> String {
-    Sheet::decode(bytes).map_or_else(|_| BAD_SHEET.to_string(), |sheet| run(&sheet))
+    forms::of_binary(bytes, run)
 }
 
-/// The output of a sheet in either form, see [`looks_like_text`].
+/// The output of a sheet in either form, see [`forms::looks_like_text`].
 pub fn run_either(bytes: &[u8]) -> Result<String, TextError> {
-    if looks_like_text(bytes) {
-        return Ok(run(&text::assemble(bytes)?));
-    }
-    Ok(run_binary(bytes))
-}
-
-/// The first byte decides. A line of text begins with a printable character
-/// or white space; a binary sheet begins with byte 1, or is a bad one. Some
-/// editors put a byte order mark before the first line.
-pub fn looks_like_text(bytes: &[u8]) -> bool {
-    let first = bytes.first();
-    first.is_some_and(|byte| byte.is_ascii_graphic() || byte.is_ascii_whitespace())
-        || bytes.starts_with(text::BYTE_ORDER_MARK)
+    forms::of_either(bytes, run)
 }
 
 fn add_step(out: &mut String, place: usize, reply: Reply) {

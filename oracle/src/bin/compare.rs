@@ -1,10 +1,11 @@
-//! Compares a program that runs step sheets with the oracle.
+//! Compares the program that runs step sheets and the one that traces them with
+//! the oracle.
 //!
-//! `compare PROGRAM EXAMPLES [seed=N] [sheets=N] [keep=FILE]`: PROGRAM reads a
-//! binary sheet from standard input, EXAMPLES is a folder of sheets in either
-//! form. The first input that is answered otherwise is kept in FILE. What the
-//! random sheets have reached is judged from 2,000 of them on, which is how many
-//! there are if nothing is said.
+//! `compare PROGRAM TRACER EXAMPLES [seed=N] [sheets=N] [keep=FILE]`: PROGRAM and
+//! TRACER read a binary sheet from standard input, EXAMPLES is a folder of sheets
+//! in either form. The first input that one of them answers otherwise is kept in
+//! FILE. What the random sheets have reached is judged from 2,000 of them on,
+//! which is how many there are if nothing is said.
 
 use std::env;
 use std::fs;
@@ -12,16 +13,17 @@ use std::path::Path;
 use std::process::ExitCode;
 
 use oracle::compare::{
-    compare, Case, Failure, Plan, Process, Stopped, Tally, LEAST_COUNTS_ARE_FOR,
+    compare, Case, Failure, Plan, Process, Program, Stopped, Tally, LEAST_COUNTS_ARE_FOR,
 };
-use oracle::{run, text};
+use oracle::{forms, text};
 
-const USAGE: &str = "usage: compare PROGRAM EXAMPLES [seed=N] [sheets=N] [keep=FILE]\n\
+const USAGE: &str = "usage: compare PROGRAM TRACER EXAMPLES [seed=N] [sheets=N] [keep=FILE]\n\
     least counts are judged from sheets=2000 on, which is the usual number";
 const KEEP: &str = "failed.sheet";
 
 struct Asked {
     program: String,
+    tracer: String,
     examples: String,
     plan: Plan,
     keep: String,
@@ -37,10 +39,10 @@ fn main() -> ExitCode {
         Err(error) => return misused(&error),
     };
     let Plan { seed, sheets } = asked.plan;
-    println!("compare: {}, seed={seed} sheets={sheets}", asked.program);
-    let process = Process::new(&asked.program);
+    println!("compare: {} and {}, seed={seed} sheets={sheets}", asked.program, asked.tracer);
+    let mut run = |program, case: &Case| Process::new(asked.path_of(program)).run(case);
     let mut say = |what: &str| println!("compare: {what}");
-    match compare(&mut |case| process.run(case), examples, asked.plan, &mut say) {
+    match compare(&mut run, examples, asked.plan, &mut say) {
         Ok(tally) => report(&asked, &tally),
         Err(Stopped::Failed(failure)) => report_failure(&asked, &failure),
         Err(Stopped::NoProgram(error)) => misused(&error),
@@ -49,11 +51,12 @@ fn main() -> ExitCode {
 
 impl Asked {
     fn read(arguments: &[String]) -> Option<Asked> {
-        let [program, examples, options @ ..] = arguments else {
+        let [program, tracer, examples, options @ ..] = arguments else {
             return None;
         };
         let mut asked = Asked {
             program: program.clone(),
+            tracer: tracer.clone(),
             examples: examples.clone(),
             plan: Plan { seed: 1, sheets: LEAST_COUNTS_ARE_FOR },
             keep: KEEP.to_string(),
@@ -67,6 +70,13 @@ impl Asked {
             }
         }
         Some(asked)
+    }
+
+    fn path_of(&self, program: Program) -> &str {
+        match program {
+            Program::Run => &self.program,
+            Program::Trace => &self.tracer,
+        }
     }
 }
 
@@ -92,7 +102,7 @@ fn examples(folder: &Path) -> Result<Vec<Case>, String> {
 
 fn example(file: &Path) -> Result<Case, String> {
     let mut bytes = fs::read(file).map_err(|error| error.to_string())?;
-    if run::looks_like_text(&bytes) {
+    if forms::looks_like_text(&bytes) {
         let sheet = text::assemble(&bytes).map_err(|error| error.to_string())?;
         bytes = sheet.encode();
     }
@@ -118,7 +128,7 @@ fn report(asked: &Asked, tally: &Tally) -> ExitCode {
 }
 
 fn report_failure(asked: &Asked, failure: &Failure) -> ExitCode {
-    let Asked { program, keep, .. } = asked;
+    let (program, keep) = (asked.path_of(failure.program), &asked.keep);
     println!("compare: FAILED\n{failure}");
     match fs::write(keep, &failure.case.bytes) {
         Ok(()) => println!("compare: repeat with `{program} < {keep}`"),

@@ -1,11 +1,11 @@
-//! Assembles, shows and runs step sheets.
+//! Assembles, shows, runs and traces step sheets.
 
 use std::ffi::{OsStr, OsString};
 use std::io::{Read, Write};
 use std::path::Path;
 use std::process::ExitCode;
 
-use oracle::{run, text, Sheet, Timeline};
+use oracle::{forms, run, text, trace, Sheet, TextError, Timeline};
 
 const USAGE: &str = "\
 sheet: step sheets for the transaction core
@@ -19,6 +19,13 @@ sheet: step sheets for the transaction core
   sheet run [FILE]        makes the steps of a sheet, in either form, and prints
                           for each its place, code, kind and word; the word of
                           codes 11 and 14 says who is in the way
+  sheet trace [FILE]      makes the steps likewise, and prints the effects of
+                          the run, a line each: at for a begin, r for a read of
+                          a shared cell (not from a log), rl for a reload, co
+                          for a finish that commits, ab for a give up or outcome
+                          13; then slot and transaction number, counted from 1;
+                          then for r the cell, for co the stamp and the written
+                          cells; refused steps and all others have no line
 
 Without FILE the sheet is read from standard input.
 
@@ -68,11 +75,12 @@ fn answer(arguments: &[OsString]) -> Result<Vec<u8>, Failure> {
     let Some((command, files)) = arguments.split_first() else {
         return Ok(USAGE.into());
     };
-    let act = match command.to_str() {
+    let act: fn(&[u8]) -> Result<Vec<u8>, String> = match command.to_str() {
         Some("show") if files.iter().any(is_option) => return draw(files),
         Some("assemble") => assemble,
         Some("show") => show,
-        Some("run") => run_sheet,
+        Some("run") => |input| printed(run::run_either(input)),
+        Some("trace") => |input| printed(trace::trace_either(input)),
         Some("help" | "--help" | "-h") => return Ok(USAGE.into()),
         _ => return Err(misused(format!("there is no command {command:?}"))),
     };
@@ -134,7 +142,7 @@ fn picture_file(name: Option<&OsString>) -> Result<OsString, Failure> {
 /// A bad binary sheet stays as it is too: it is for the program that runs it
 /// to say so.
 fn assemble(input: &[u8]) -> Result<Vec<u8>, String> {
-    if !run::looks_like_text(input) {
+    if !forms::looks_like_text(input) {
         return Ok(input.to_vec());
     }
     let sheet = text::assemble(input).map_err(|error| error.to_string())?;
@@ -146,9 +154,8 @@ fn show(input: &[u8]) -> Result<Vec<u8>, String> {
     Ok(text::show(&sheet).into())
 }
 
-fn run_sheet(input: &[u8]) -> Result<Vec<u8>, String> {
-    let output = run::run_either(input).map_err(|error| error.to_string())?;
-    Ok(output.into())
+fn printed(output: Result<String, TextError>) -> Result<Vec<u8>, String> {
+    output.map(String::into_bytes).map_err(|error| error.to_string())
 }
 
 fn read_standard_input() -> Result<Vec<u8>, Failure> {

@@ -1,8 +1,9 @@
-//! The time of a whole sheet on a program that runs sheets, beside that of the
-//! oracle's program `sheet`: both as processes, on the same file.
+//! The time of a whole sheet on the program that runs sheets and on the one that
+//! traces them, each beside that of the oracle's program `sheet`: all as
+//! processes, on the same file.
 //!
-//! `sheet_time PROGRAM FOLDER`: the sheets are written to FOLDER. Without
-//! PROGRAM there is nothing to measure, which is said and is no failure.
+//! `sheet_time PROGRAM TRACER FOLDER`: the sheets are written to FOLDER. Without
+//! both programs there is nothing to measure, which is said and is no failure.
 
 use std::env;
 use std::fs::{self, File};
@@ -11,23 +12,31 @@ use std::process::{Command, ExitCode, Stdio};
 use std::time::{Duration, Instant};
 
 use oracle::binary::STEPS_AT_MOST;
-use oracle::compare::full_sheet;
+use oracle::compare::{full_sheet, Program};
 use oracle::Sheet;
 
 const TIMES: usize = 25;
 const SEED: u64 = 1;
 
+/// A program beside the oracle's command, with the best time of each so far.
+struct Pair {
+    program: (Command, Duration),
+    oracle: (Command, Duration),
+}
+
 fn main() -> ExitCode {
     let arguments: Vec<String> = env::args().skip(1).collect();
-    let [program, folder] = &arguments[..] else {
-        eprintln!("usage: sheet_time PROGRAM FOLDER");
-        return ExitCode::from(2);
+    let [programs @ .., folder] = &arguments[..] else {
+        return misused();
     };
-    if !Path::new(program).exists() {
-        println!("time of a sheet: skipped, there is no {program}: `make run` builds it");
+    let [program, tracer] = programs else {
+        return misused();
+    };
+    if let Some(missing) = programs.iter().find(|program| !Path::new(program).exists()) {
+        println!("time of a sheet: skipped, there is no {missing}: `make program` builds it");
         return ExitCode::SUCCESS;
     }
-    match measure(program, Path::new(folder)) {
+    match measure([program, tracer], Path::new(folder)) {
         Ok(()) => ExitCode::SUCCESS,
         Err(error) => {
             eprintln!("sheet_time: {error}");
@@ -36,50 +45,81 @@ fn main() -> ExitCode {
     }
 }
 
-fn measure(program: &str, folder: &Path) -> Result<(), String> {
+fn misused() -> ExitCode {
+    eprintln!("usage: sheet_time PROGRAM TRACER FOLDER");
+    ExitCode::from(2)
+}
+
+fn measure(programs: [&str; 2], folder: &Path) -> Result<(), String> {
+    println!("time of a sheet with 64 cells in milliseconds, as a process, the best of {TIMES}:");
+    println!("steps  command  program  oracle  ratio");
+    let full = full_sheet(SEED);
+    let [run, trace] = measure_on(STEPS_AT_MOST, full.clone(), programs, folder)?;
+    // What starting a process takes is in all of them.
+    measure_on(0, without_steps(&full)?, programs, folder)?;
+    println!("{STEPS_AT_MOST} steps: the trace takes {:.2} times as long as the run", trace / run);
+    Ok(())
+}
+
+/// Writes a line for each program, and answers their milliseconds.
+fn measure_on(
+    steps: usize,
+    sheet: Vec<u8>,
+    programs: [&str; 2],
+    folder: &Path,
+) -> Result<[f64; 2], String> {
+    let file = folder.join(format!("{steps}-steps.sheet"));
+    fs::write(&file, sheet).map_err(|error| format!("{}: {error}", file.display()))?;
+    let pairs = best_times(programs, &file)?;
+    for (pair, command) in pairs.iter().zip(Program::BOTH) {
+        let (program, oracle) = (milliseconds(pair.program.1), milliseconds(pair.oracle.1));
+        let ratio = program / oracle;
+        println!("{steps:5}  {command:7}  {program:7.2}  {oracle:6.2}  {ratio:5.2}");
+    }
+    Ok(pairs.map(|pair| milliseconds(pair.program.1)))
+}
+
+/// All take turns: what else the machine does is then the same for each.
+fn best_times([run, trace]: [&str; 2], file: &Path) -> Result<[Pair; 2], String> {
     // It is built into the same folder as this program.
     let here = env::current_exe().map_err(|error| error.to_string())?;
     let oracle = here.with_file_name("sheet");
-    println!("time of a sheet with 64 cells in milliseconds, as a process, the best of {TIMES}:");
-    println!("steps  program  oracle  ratio");
-    let full = full_sheet(SEED);
-    // What starting a process takes is in both.
-    for (steps, bytes) in [(STEPS_AT_MOST, full.clone()), (0, without_steps(&full)?)] {
-        let file = folder.join(format!("{steps}-steps.sheet"));
-        fs::write(&file, bytes).map_err(|error| format!("{}: {error}", file.display()))?;
-        let (program, oracle) = compare(Command::new(program), runs(&oracle), &file)?;
-        let ratio = program / oracle;
-        println!("{steps:5}  {program:7.2}  {oracle:6.2}  {ratio:5.2}");
+    let mut pairs =
+        [Pair::new(Program::Run, run, &oracle), Pair::new(Program::Trace, trace, &oracle)];
+    for _ in 0..TIMES {
+        pairs.iter_mut().try_for_each(|pair| pair.take_turn(file))?;
     }
-    Ok(())
+    Ok(pairs)
+}
+
+impl Pair {
+    fn new(which: Program, program: &str, oracle: &Path) -> Pair {
+        let mut command = Command::new(oracle);
+        command.arg(which.to_string());
+        Pair { program: (Command::new(program), Duration::MAX), oracle: (command, Duration::MAX) }
+    }
+
+    /// Of each the best time counts: what else the machine does only adds.
+    fn take_turn(&mut self, file: &Path) -> Result<(), String> {
+        let (time, given) = timed(&mut self.program.0, file)?;
+        let (time_of_oracle, wanted) = timed(&mut self.oracle.0, file)?;
+        if given != wanted {
+            return Err("the outputs differ: `make sheets-test` shows where".to_string());
+        }
+        self.program.1 = time.min(self.program.1);
+        self.oracle.1 = time_of_oracle.min(self.oracle.1);
+        Ok(())
+    }
+}
+
+fn milliseconds(time: Duration) -> f64 {
+    time.as_secs_f64() * 1e3
 }
 
 fn without_steps(sheet: &[u8]) -> Result<Vec<u8>, String> {
     let sheet = Sheet::decode(sheet).map_err(|bad| bad.to_string())?;
     let none = Sheet::new(sheet.cells().to_vec(), Vec::new()).map_err(|bad| bad.to_string())?;
     Ok(none.encode())
-}
-
-fn runs(sheet: &Path) -> Command {
-    let mut command = Command::new(sheet);
-    command.arg("run");
-    command
-}
-
-/// Milliseconds of each. They take turns, and of each the best time counts: what
-/// else the machine does only adds.
-fn compare(mut program: Command, mut oracle: Command, file: &Path) -> Result<(f64, f64), String> {
-    let (mut best, mut best_of_oracle) = (Duration::MAX, Duration::MAX);
-    for _ in 0..TIMES {
-        let (time, given) = timed(&mut program, file)?;
-        let (time_of_oracle, wanted) = timed(&mut oracle, file)?;
-        if given != wanted {
-            return Err("the outputs differ: `make sheets-test` shows where".to_string());
-        }
-        best = best.min(time);
-        best_of_oracle = best_of_oracle.min(time_of_oracle);
-    }
-    Ok((best.as_secs_f64() * 1e3, best_of_oracle.as_secs_f64() * 1e3))
 }
 
 fn timed(command: &mut Command, file: &Path) -> Result<(Duration, Vec<u8>), String> {

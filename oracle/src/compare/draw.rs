@@ -8,16 +8,19 @@ use crate::generate::Habit;
 use crate::machine::{Machine, CELLS_AT_MOST, SLOTS};
 use crate::random::Random;
 
-/// One random sheet in so many has as many cells and steps as there may be.
-const FULL_SHEETS_ARE_ONE_IN: u64 = 80;
+/// The sorts of random sheets return after so many.
+const ROUND: u64 = 80;
 
 const CHANGED_SHEETS: u64 = 300;
 
-/// A sheet with a commit. It follows from the seed and its own number alone.
+/// A sheet with a commit, but for one in forty, in which all is refused. It
+/// follows from the seed and its own number alone.
 pub fn random_sheet(seed: u64, number: u64) -> Case {
     let mut random = Random::of_part(seed, number);
-    let sheet = match number % FULL_SHEETS_ARE_ONE_IN {
+    let sheet = match number % ROUND {
         0 => busy_sheet(&mut random),
+        10 | 30 | 50 | 70 => wide_sheet(&mut random),
+        20 | 60 => refused_sheet(&mut random),
         _ => some_sheet(&mut random),
     };
     Case::new(format!("random sheet {number} of seed {seed}"), encoded(sheet))
@@ -64,6 +67,24 @@ fn busy_sheet(random: &mut Random) -> Option<Sheet> {
     let patience = random.pick(&[8, 40])?;
     let tasks = Tasks::Any(Habit { slots: SLOTS as u8, patience });
     sheet_with_a_commit(random, CELLS_AT_MOST, tasks, STEPS_AT_MOST)
+}
+
+/// Some transactions write as many cells as a log has room for.
+fn wide_sheet(random: &mut Random) -> Option<Sheet> {
+    let n = random.pick(&[17, 20, 64])?;
+    let tasks = Tasks::FillLogs { slots: random.between(1, 3) as u8 };
+    sheet_with_a_commit(random, n, tasks, 400)
+}
+
+/// No begin is accepted, so that no step has an effect.
+fn refused_sheet(random: &mut Random) -> Option<Sheet> {
+    let n = random.cell_count();
+    let cells = random.values(n);
+    let fresh = Machine::fresh(&cells)?;
+    let steps = random.between(1, 100) as usize;
+    let calls = (0..steps).map(|_| random.junk_call());
+    let refused = calls.filter(|call| fresh.clone().step(*call).is_refused()).collect();
+    Sheet::new(cells, refused).ok()
 }
 
 /// Draws until some transaction commits, which few short sheets lack.

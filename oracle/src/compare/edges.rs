@@ -3,6 +3,7 @@
 use super::case::{Case, BEGIN, CELL};
 use super::ignoring::sheets_that_ignore;
 use super::in_the_way::sheets_with_a_holder;
+use super::traced::sheets_to_trace;
 use crate::binary::STEPS_AT_MOST;
 use crate::machine::CELLS_AT_MOST;
 use crate::random::Random;
@@ -11,7 +12,8 @@ use crate::text;
 const S_TEXT: &str = include_str!("../../../examples/sheets/s.txt");
 
 /// Good sheets: none and most of everything, every slot in the way, marks that
-/// may be ignored and that may not, and every byte in every place of a step.
+/// may be ignored and that may not, every effect, and every byte in every place
+/// of a step.
 pub fn edge_sheets() -> Vec<Case> {
     let numbers_of_cells = 1..=CELLS_AT_MOST;
     let mut cases: Vec<Case> = numbers_of_cells
@@ -23,6 +25,7 @@ pub fn edge_sheets() -> Vec<Case> {
     cases.push(reloads());
     cases.extend(sheets_with_a_holder());
     cases.extend(sheets_that_ignore());
+    cases.extend(sheets_to_trace());
     for place in 0..4 {
         let mut steps = Vec::new();
         for byte in 0..=255 {

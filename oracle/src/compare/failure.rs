@@ -1,17 +1,19 @@
-//! What is told when the program gives something else.
+//! What is told when a program gives something else.
 
 use std::fmt;
 
-use super::{Case, Ended, Given};
+use super::{Case, Ended, Given, Program};
 use crate::binary::Sheet;
 use crate::text;
 
 /// Bytes of a line that are shown.
 const SHOWN: usize = 120;
 
-/// The input and how what the program gave differs.
+/// The program, the input, and how what the one gave for the other differs.
 #[derive(Clone, Debug)]
 pub struct Failure {
+    /// The program.
+    pub program: Program,
     /// The input.
     pub case: Case,
     /// The differences, a line each.
@@ -21,19 +23,23 @@ pub struct Failure {
 impl fmt::Display for Failure {
     fn fmt(&self, f: &mut fmt::Formatter) -> fmt::Result {
         let Case { name, bytes, .. } = &self.case;
-        write!(f, "{name} ({} bytes)", bytes.len())?;
+        write!(f, "{} of {name} ({} bytes)", self.program, bytes.len())?;
         self.report.iter().try_for_each(|line| write!(f, "\n  {line}"))
     }
 }
 
 /// An error says how the given differs from the wanted.
-pub(super) fn compare_with(case: &Case, wanted: &str, given: &Given) -> Result<(), Box<Failure>> {
-    let lines = [ended(given), errors(given), output(case, wanted.as_bytes(), &given.output)];
+pub(super) fn compare_with(
+    program: Program,
+    case: &Case,
+    given: &Given,
+) -> Result<(), Box<Failure>> {
+    let lines = [ended(given), errors(given), output(program, case, &given.output)];
     let report: Vec<String> = lines.into_iter().flatten().collect();
     if report.is_empty() {
         return Ok(());
     }
-    Err(Box::new(Failure { case: case.clone(), report }))
+    Err(Box::new(Failure { program, case: case.clone(), report }))
 }
 
 fn ended(given: &Given) -> Option<String> {
@@ -51,17 +57,18 @@ fn errors(given: &Given) -> Option<String> {
 }
 
 /// Lines are compared with their newlines: a missing one is a difference.
-fn output(case: &Case, wanted: &[u8], given: &[u8]) -> Option<String> {
-    if wanted == given {
+fn output(program: Program, case: &Case, given: &[u8]) -> Option<String> {
+    let wanted = program.wanted(&case.bytes);
+    if wanted.as_bytes() == given {
         return None;
     }
-    let mut wanted = wanted.split_inclusive(|byte| *byte == b'\n');
+    let mut wanted = wanted.as_bytes().split_inclusive(|byte| *byte == b'\n');
     let mut given = given.split_inclusive(|byte| *byte == b'\n');
     for line in 1.. {
         let (right, wrong) = (wanted.next(), given.next());
         if right != wrong {
             let (right, wrong) = (line_or_none(right), line_or_none(wrong));
-            let step = step_at(case, line);
+            let step = step_at(program, case, line);
             return Some(format!("line {line}{step}: wanted {right}, given {wrong}"));
         }
     }
@@ -78,11 +85,13 @@ fn quoted(bytes: &[u8]) -> String {
 }
 
 /// The step that a line of the output is about, in the text form.
-fn step_at(case: &Case, line: usize) -> String {
+fn step_at(program: Program, case: &Case, line: usize) -> String {
     let Ok(sheet) = Sheet::decode(&case.bytes) else {
         return " (a bad sheet)".to_string();
     };
     let texts = text::show(&sheet);
     let mut texts = texts.lines().skip(sheet.cells().len());
-    texts.nth(line - 1).map_or(String::new(), |step| format!(" ({step})"))
+    let place = program.place_of(&sheet, line);
+    let step = place.and_then(|place| texts.nth(place - 1));
+    step.map_or(String::new(), |step| format!(" ({step})"))
 }

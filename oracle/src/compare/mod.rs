@@ -1,17 +1,20 @@
-//! Sheets for a program that reads one from standard input and prints what it
-//! gives, each compared with this library: every byte of the output, the status,
-//! and that nothing goes to standard error.
+//! Sheets for the programs that read one from standard input and print what it
+//! gives, one its run and one its trace, each compared with this library: every
+//! byte of the output, the status, and that nothing goes to standard error.
 
 mod bad;
 mod case;
 mod draw;
 mod edges;
+mod effects;
 mod failure;
 mod ignoring;
 mod in_the_way;
 mod process;
+mod program;
 mod steps;
 mod tally;
+mod traced;
 
 pub use bad::bad_sheets;
 pub use case::Case;
@@ -19,10 +22,10 @@ pub use draw::{changed_sheets, full_sheet, random_sheet};
 pub use edges::{cut_sheets, edge_sheets, long_inputs, sheets_in_pieces};
 pub use failure::Failure;
 pub use process::Process;
+pub use program::Program;
 pub use tally::{Tally, LEAST_COUNTS_ARE_FOR};
 
 use crate::binary::Sheet;
-use crate::run;
 
 /// What a program gave back.
 #[derive(Clone, Debug)]
@@ -46,24 +49,24 @@ pub enum Ended {
     NotInTime,
 }
 
-/// Gives the program a sheet. An error means that there is no such program.
-pub type Run<'a> = dyn FnMut(&Case) -> Result<Given, String> + 'a;
+/// Gives a program a sheet. An error means that there is no such program.
+pub type Run<'a> = dyn FnMut(Program, &Case) -> Result<Given, String> + 'a;
 
 /// What random sheets are drawn.
 #[derive(Clone, Copy, Debug)]
 pub struct Plan {
     /// Equal seeds draw equal sheets.
     pub seed: u64,
-    /// How many sheets with a commit.
+    /// How many sheets.
     pub sheets: u64,
 }
 
 /// Why a comparison stopped.
 #[derive(Debug)]
 pub enum Stopped {
-    /// The program can't be run.
+    /// A program can't be run.
     NoProgram(String),
-    /// It has given something else than what is wanted.
+    /// One has given something else than what is wanted.
     Failed(Box<Failure>),
 }
 
@@ -100,10 +103,12 @@ pub fn compare(
     Ok(tally)
 }
 
-/// Compares on one input, and answers the sheet if it is a good one.
+/// Compares both programs on one input, and answers the sheet if it is a good
+/// one.
 fn one(run: &mut Run, case: &Case) -> Result<Option<Sheet>, Stopped> {
-    let given = run(case).map_err(Stopped::NoProgram)?;
-    let wanted = run::run_binary(&case.bytes);
-    failure::compare_with(case, &wanted, &given).map_err(Stopped::Failed)?;
+    for program in Program::BOTH {
+        let given = run(program, case).map_err(Stopped::NoProgram)?;
+        failure::compare_with(program, case, &given).map_err(Stopped::Failed)?;
+    }
     Ok(Sheet::decode(&case.bytes).ok())
 }

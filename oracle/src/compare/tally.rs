@@ -2,12 +2,14 @@
 
 use std::fmt;
 
+use super::effects::{Effects, Made};
 use crate::binary::{Sheet, STEPS_AT_MOST};
 use crate::call::{Call, Reply, Step};
 use crate::counts::{self, Count};
 use crate::ignores::{self, Ignores, Repairs};
 use crate::machine::{Machine, CELLS_AT_MOST};
 use crate::obstacles::{self, Obstacles};
+use crate::trace::Tracer;
 
 /// The least counts are those of so many random sheets, and of more in
 /// proportion. Fewer may miss one of them by chance.
@@ -31,6 +33,8 @@ pub struct Tally {
     marks: u64,
     obstacles: Obstacles,
     ignores: Ignores,
+    effects: Effects,
+    without_an_effect: u64,
 }
 
 impl Tally {
@@ -47,34 +51,39 @@ impl Tally {
     /// For random sheets only: what was written by hand says nothing of them.
     pub(super) fn note_steps(&mut self, sheet: &Sheet) {
         let commits = self.commits();
-        if let Some(mut machine) = Machine::fresh(sheet.cells()) {
-            let mut repairs = Repairs::default();
+        let mut effects = 0;
+        if let Some(machine) = Machine::fresh(sheet.cells()) {
+            let (mut tracer, mut repairs) = (Tracer::new(machine), Repairs::default());
             for call in sheet.calls() {
-                self.note_step(&mut machine, *call, &mut repairs);
+                effects += u64::from(self.note_step(&mut tracer, *call, &mut repairs));
             }
         }
         let committed = self.commits() > commits;
         let size = (sheet.cells().len(), sheet.calls().len());
         self.with_a_commit += u64::from(committed);
         self.full += u64::from(committed && size == (CELLS_AT_MOST, STEPS_AT_MOST));
+        self.without_an_effect += u64::from(effects == 0);
     }
 
-    fn note_step(&mut self, machine: &mut Machine, call: Call, repairs: &mut Repairs) {
-        let before = Ignores::is_about(call.step).then(|| machine.clone());
-        let reply = machine.step(call);
+    /// Answers whether the step has an effect.
+    fn note_step(&mut self, tracer: &mut Tracer, call: Call, repairs: &mut Repairs) -> bool {
+        let before = Ignores::is_about(call.step).then(|| tracer.machine().clone());
+        let (reply, effect) = tracer.step(call);
+        let machine = tracer.machine();
         before.iter().for_each(|before| self.ignores.note(before, call, reply.code()));
         if repairs.note(machine, call, reply) {
             self.ignores.note_repair();
         }
         self.codes[usize::from(reply.code())] += 1;
         self.obstacles.note(machine, call, reply.number());
-        let Some(step) = Step::numbered(call.step).filter(|_| reply.code() == 0) else {
-            return;
-        };
-        self.done[usize::from(step.number())] += 1;
-        // Enter answers false: something is marked.
-        let marks = step == Step::Enter && reply.word() == 0 && reply != Reply::Done;
-        self.marks += u64::from(marks);
+        self.effects.note(&Made { call, reply, effect: effect.as_ref(), machine });
+        if let Some(step) = Step::numbered(call.step).filter(|_| reply.code() == 0) {
+            self.done[usize::from(step.number())] += 1;
+            // Enter answers false: something is marked.
+            let marks = step == Step::Enter && reply.word() == 0 && reply != Reply::Done;
+            self.marks += u64::from(marks);
+        }
+        effect.is_some()
     }
 
     fn commits(&self) -> u64 {
@@ -88,8 +97,9 @@ impl Tally {
 
     fn counts(&self) -> Vec<Count> {
         let named = [
-            ("random sheets with a commit", self.with_a_commit, 2_000),
+            ("random sheets with a commit", self.with_a_commit, 1_950),
             ("of these with 64 cells and 4096 steps", self.full, 20),
+            ("random sheets without an effect", self.without_an_effect, 50),
             ("commits", self.commits(), 10_000),
             ("enters that mark", self.marks, 1_000),
             ("reloads", self.done[usize::from(Step::Reload.number())], 4_000),
@@ -108,6 +118,7 @@ impl Tally {
         }
         counts.extend(self.obstacles.counts(OBSTACLES));
         counts.extend(self.ignores.counts(IGNORES));
+        counts.extend(self.effects.counts());
         for step in Step::ALL {
             let count = self.done[usize::from(step.number())];
             counts.push((format!("{} done", step.name()), count, 1_500));

@@ -1,8 +1,8 @@
 //! The run of a sheet, step by step.
 
 use crate::binary::Sheet;
+use crate::forms::looks_like_text;
 use crate::machine::{Machine, SLOTS};
-use crate::run::looks_like_text;
 use crate::text;
 use crate::value::Value;
 

@@ -19,8 +19,19 @@ fn run_compare(arguments: &[&str]) -> Output {
     output_of(env!("CARGO_BIN_EXE_compare"), arguments)
 }
 
-fn run_sheet_time(program: &str) -> Output {
-    output_of(env!("CARGO_BIN_EXE_sheet_time"), &[program, env!("CARGO_TARGET_TMPDIR")])
+/// The path of a stand-in as an argument.
+fn path(name: &str) -> String {
+    stand_in(name).to_string_lossy().to_string()
+}
+
+/// Both programs are right.
+fn compare_right(options: &[&str]) -> Output {
+    let (run, trace) = (path("run"), path("trace"));
+    run_compare(&[&[&run, &trace, EXAMPLES], options].concat())
+}
+
+fn run_sheet_time(program: &str, tracer: &str) -> Output {
+    output_of(env!("CARGO_BIN_EXE_sheet_time"), &[program, tracer, env!("CARGO_TARGET_TMPDIR")])
 }
 
 fn output_of(program: &str, arguments: &[&str]) -> Output {
@@ -35,8 +46,7 @@ fn lines(output: &[u8]) -> Vec<String> {
 
 #[test]
 fn what_is_right_passes() {
-    let right = stand_in("right");
-    let output = run_compare(&[&right.to_string_lossy(), EXAMPLES, "sheets=200", "seed=3"]);
+    let output = compare_right(&["sheets=200", "seed=3"]);
     let lines = lines(&output.stdout);
     let last = lines.last().expect("a line");
     assert!(last.starts_with("compare: ") && last.ends_with(" inputs answered alike, seed 3"));
@@ -47,8 +57,7 @@ fn what_is_right_passes() {
 /// No code 15 is among these, which is no fault of the program.
 #[test]
 fn few_sheets_are_not_judged_by_what_they_reach() {
-    let right = stand_in("right");
-    let output = run_compare(&[&right.to_string_lossy(), EXAMPLES, "sheets=20", "seed=5"]);
+    let output = compare_right(&["sheets=20", "seed=5"]);
     let lines = lines(&output.stdout);
     assert!(lines.iter().any(|line| line.split_whitespace().eq(["0", "code", "15"])), "{lines:?}");
     let told = "compare: 20 random sheets are too few to judge what they have reached";
@@ -59,26 +68,35 @@ fn few_sheets_are_not_judged_by_what_they_reach() {
 #[test]
 fn what_is_wrong_fails_and_the_sheet_is_kept() {
     let keep = format!("{}/kept.sheet", env!("CARGO_TARGET_TMPDIR"));
-    let output = run_compare(&["cat", EXAMPLES, &format!("keep={keep}")]);
-    assert_eq!(output.status.code(), Some(1));
-    let lines = lines(&output.stdout);
-    assert!(lines.contains(&"compare: FAILED".to_string()), "{lines:?}");
-    assert_eq!(lines.last(), Some(&format!("compare: repeat with `cat < {keep}`")));
+    let option = format!("keep={keep}");
     // The first example by name.
     let first = std::fs::read(format!("{EXAMPLES}/blocked.txt")).expect("an example");
     let first = oracle::text::assemble(&first).expect("a good text").encode();
-    assert_eq!(std::fs::read(keep).expect("the sheet"), first);
+    let (run, trace) = (path("run"), path("trace"));
+    for (which, [program, tracer]) in [("run", ["cat", &trace]), ("trace", [&run, "cat"])] {
+        let _ = std::fs::remove_file(&keep);
+        let output = run_compare(&[program, tracer, EXAMPLES, &option]);
+        assert_eq!(output.status.code(), Some(1));
+        let lines = lines(&output.stdout);
+        let failed = lines.iter().position(|line| line == "compare: FAILED").expect("a failure");
+        assert!(lines[failed + 1].starts_with(&format!("{which} of ")), "{lines:?}");
+        assert_eq!(lines.last(), Some(&format!("compare: repeat with `cat < {keep}`")));
+        assert_eq!(std::fs::read(&keep).expect("the sheet"), first);
+    }
 }
 
 #[test]
 fn misuse_has_its_own_status() {
-    let misuses: [&[&str]; 6] = [
+    let run = path("run");
+    let misuses: [&[&str]; 8] = [
         &[],
         &["cat"],
-        &["cat", EXAMPLES, "sheets=many"],
-        &["cat", EXAMPLES, "calls=5"],
-        &["cat", "no/such/folder"],
-        &["no/such/program", EXAMPLES],
+        &["cat", "cat"],
+        &["cat", "cat", EXAMPLES, "sheets=many"],
+        &["cat", "cat", EXAMPLES, "calls=5"],
+        &["cat", "cat", "no/such/folder"],
+        &["no/such/program", "cat", EXAMPLES],
+        &[&run, "no/such/program", EXAMPLES],
     ];
     for arguments in misuses {
         let output = run_compare(arguments);
@@ -117,16 +135,25 @@ fn how_a_program_ended_is_told() {
 
 #[test]
 fn the_time_of_a_sheet() {
-    let output = run_sheet_time(&stand_in("right").to_string_lossy());
+    let (run, trace) = (path("run"), path("trace"));
+    let output = run_sheet_time(&run, &trace);
     assert_eq!(output.status.code(), Some(0));
     let lines = lines(&output.stdout);
-    let steps = lines.iter().skip(2).map(|line| line.split_whitespace().next());
-    assert_eq!(steps.collect::<Vec<_>>(), [Some("4096"), Some("0")], "{lines:?}");
+    let begins = |line: &String, words: &str| line.split_whitespace().take(2).eq(words.split(' '));
+    for (line, words) in lines[2..].iter().zip(["4096 run", "4096 trace", "0 run", "0 trace"]) {
+        assert!(begins(line, words), "{words}: {lines:?}");
+    }
+    assert!(lines[6].starts_with("4096 steps: the trace takes "), "{lines:?}");
+    assert_eq!(lines.len(), 7, "{lines:?}");
 
-    let other = run_sheet_time("/bin/cat");
-    assert_eq!(other.status.code(), Some(1));
-    let missing = run_sheet_time("no/such/program");
-    assert_eq!(missing.status.code(), Some(0));
-    let said = "time of a sheet: skipped, there is no no/such/program: `make run` builds it\n";
-    assert_eq!(missing.stdout, said.as_bytes());
+    for [program, tracer] in [["/bin/cat", &trace], [&run, "/bin/cat"]] {
+        assert_eq!(run_sheet_time(program, tracer).status.code(), Some(1));
+    }
+    for [program, tracer] in [["no/such/program", &trace], [&run, "no/such/program"]] {
+        let missing = run_sheet_time(program, tracer);
+        assert_eq!(missing.status.code(), Some(0));
+        let said =
+            "time of a sheet: skipped, there is no no/such/program: `make program` builds it\n";
+        assert_eq!(missing.stdout, said.as_bytes());
+    }
 }

@@ -6,6 +6,7 @@ use std::process::{Command, Output, Stdio};
 use oracle::{text, Timeline};
 
 use crate::sheets::{s_binary, S_OUTPUT, S_TEXT};
+use crate::traces::S_TRACE;
 
 const S_FILE: &str = concat!(env!("CARGO_MANIFEST_DIR"), "/../examples/sheets/s.txt");
 
@@ -29,10 +30,17 @@ fn check(output: &Output, status: i32, stdout: &[u8], stderr: &str) {
 }
 
 #[test]
-fn run_takes_a_file_or_standard_input_in_either_form() {
-    check(&sheet(&["run", S_FILE], b""), 0, S_OUTPUT.as_bytes(), "");
-    check(&sheet(&["run"], S_TEXT.as_bytes()), 0, S_OUTPUT.as_bytes(), "");
-    check(&sheet(&["run"], &s_binary()), 0, S_OUTPUT.as_bytes(), "");
+fn run_and_trace_take_a_file_or_standard_input_in_either_form() {
+    for (command, output) in [("run", S_OUTPUT), ("trace", S_TRACE)] {
+        check(&sheet(&[command, S_FILE], b""), 0, output.as_bytes(), "");
+        check(&sheet(&[command], S_TEXT.as_bytes()), 0, output.as_bytes(), "");
+        check(&sheet(&[command], &s_binary()), 0, output.as_bytes(), "");
+    }
+}
+
+#[test]
+fn a_trace_without_effects_prints_no_byte() {
+    check(&sheet(&["trace"], b"cell whole 5\nclose 1\n"), 0, b"", "");
 }
 
 #[test]
@@ -55,9 +63,10 @@ fn assemble_leaves_what_is_binary_as_it_is() {
 }
 
 #[test]
-fn a_bad_sheet_is_printed_by_run_and_refused_by_show() {
+fn a_bad_sheet_is_printed_by_run_and_trace_and_refused_by_show() {
     for bad in [&[][..], &[1], &[2, 0], &s_binary()[1..], &s_binary()[..50]] {
         check(&sheet(&["run"], bad), 0, b"bad sheet\n", "");
+        check(&sheet(&["trace"], bad), 0, b"bad sheet\n", "");
         let shown = sheet(&["show"], bad);
         assert_eq!((shown.status.code(), shown.stdout.len()), (Some(1), 0));
         assert!(shown.stderr.starts_with(b"sheet: bad sheet: "));
@@ -67,7 +76,7 @@ fn a_bad_sheet_is_printed_by_run_and_refused_by_show() {
 
 #[test]
 fn an_error_in_a_text_is_told_with_its_line() {
-    for command in ["run", "assemble"] {
+    for command in ["run", "trace", "assemble"] {
         let output = sheet(&[command], b"cell whole 5\nbegin\n");
         check(&output, 1, b"", "sheet: line 2: the slot is missing\n");
     }
@@ -78,7 +87,7 @@ fn no_arguments_print_how_it_is_used() {
     let usage = sheet(&[], b"");
     assert_eq!(usage.status.code(), Some(0));
     let text = String::from_utf8_lossy(&usage.stdout);
-    assert!(["assemble", "show", "run"].iter().all(|command| text.contains(command)));
+    assert!(["assemble", "show", "run", "trace"].iter().all(|command| text.contains(command)));
     check(&sheet(&["--help"], b""), 0, &usage.stdout, "");
 }
 

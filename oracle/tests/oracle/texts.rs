@@ -1,6 +1,6 @@
 //! The text form: what it says, what it refuses, and that nothing is lost.
 
-use oracle::{run, text, Call, Random, Sheet, Value};
+use oracle::{forms, run, text, Call, Random, Sheet, Value};
 
 fn assembled(lines: &str) -> Sheet {
     text::assemble(lines.as_bytes()).expect("a good text")
@@ -78,10 +78,10 @@ fn cells_comments_blank_lines_and_line_ends() {
 #[test]
 fn a_byte_order_mark_may_stand_before_the_first_line_only() {
     let marked = "\u{feff}cell whole 1\r\n";
-    assert!(run::looks_like_text(marked.as_bytes()));
+    assert!(forms::looks_like_text(marked.as_bytes()));
     assert_eq!(assembled(marked).cells(), [Value::Whole(1)]);
     assert_eq!(text::unmarked(marked.as_bytes()), b"cell whole 1\r\n");
-    assert!(!run::looks_like_text(b"\xef\xbb"));
+    assert!(!forms::looks_like_text(b"\xef\xbb"));
     assert!(text::assemble("cell whole 1\n\u{feff}begin 1".as_bytes()).is_err());
 }
 
@@ -202,12 +202,12 @@ fn bytes_that_are_not_text_are_refused_at_their_line() {
 #[test]
 fn the_first_byte_tells_text_from_binary() {
     for text in ["cell whole 1\n", " cell whole 1\n", "\n", "\t", "\r\n", "#", "begin"] {
-        assert!(run::looks_like_text(text.as_bytes()), "{text:?}");
+        assert!(forms::looks_like_text(text.as_bytes()), "{text:?}");
     }
     for first in [0, 1, 2, 8, 27, 127, 128, 255] {
-        assert!(!run::looks_like_text(&[first, b'\n']), "{first}");
+        assert!(!forms::looks_like_text(&[first, b'\n']), "{first}");
     }
-    assert!(!run::looks_like_text(&[]));
+    assert!(!forms::looks_like_text(&[]));
 }
 
 #[test]
