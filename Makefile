@@ -92,17 +92,21 @@ guide: $(LIBRARY) $(WEAR)
 	python3 docs/img/phases.py | diff - docs/img/phases.svg
 	@echo "the guide's program printed what stands in the guide"
 
-# Each sheet of the guide is run on the proved program, and what it prints stands under it.
+# What stands in the guide is what the proved programs print: ```replies and ```trace of the sheet before them, ```trace NAME of an example.
 guide-sheets: program second
-	@mkdir -p target/sheets
-	rm -f target/sheets/guide*
-	awk '/^```sheet$$/ { file = "target/sheets/guide-" ++number ".txt"; next } /^```$$/ { file = "" } file { print > file }' docs/GUIDE.md
-	set -e; for sheet in target/sheets/guide-*.txt; do \
-		$(SECOND)/sheet assemble "$$sheet" > "$${sheet%.txt}.sheet"; \
-		$(PROGRAM) < "$${sheet%.txt}.sheet"; \
-	done > target/sheets/guide.out
-	$(call blocks,replies) | diff - target/sheets/guide.out
-	@echo "the guide's sheets printed what stands in the guide"
+	rm -rf target/sheets/guide
+	mkdir -p target/sheets/guide
+	cp examples/sheets/*.txt target/sheets/guide
+	awk -v to=target/sheets/guide/ '/^```sheet$$/ { ++sheet; file = to sheet ".txt"; next } \
+		/^```(replies|trace)$$/ { file = to sheet "." substr($$1, 4); printf "" > file; next } \
+		/^```trace / { file = to $$2 ".trace"; printf "" > file; next } /^```$$/ { file = "" } file { print > file }' docs/GUIDE.md
+	set -e; for sheet in target/sheets/guide/[0-9]*.txt; do \
+		$(SECOND)/sheet assemble "$$sheet" | $(PROGRAM) | diff -u "$${sheet%.txt}.replies" -; \
+	done
+	set -e; for trace in target/sheets/guide/*.trace; do \
+		$(SECOND)/sheet assemble "$${trace%.trace}.txt" | $(TRACER) | diff -u "$$trace" -; \
+	done
+	@echo "the guide's sheets printed what stands in the guide, and so did their traces"
 
 second:
 	cd oracle && cargo build --release --offline --quiet
