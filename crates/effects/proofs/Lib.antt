@@ -5,4 +5,6 @@ pub mod Events
 pub mod States
 pub mod SheetS
 pub mod Agree
+pub mod Ascending
 pub mod Whole
+pub mod Unique

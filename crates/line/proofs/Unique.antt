@@ -6,7 +6,7 @@ use Rattle.wire.proofs.Unique.{unique}
 use Rattle.line.specs.declared.Put.{Put}
 use Rattle.line.specs.Gather.{Puts, endOf}
 
--- of `put_bytes`, `reply_line`, `cell_line` and `clock_line`, whatever the part that they put
+-- of `put_bytes`, `put_field`, `reply_line`, `cell_line` and `clock_line`, whatever the part that they put
 pub puts-unique : (s : List ℕ) (at : ℕ) (part : List ℕ) (r₁ r₂ : Put) (t₁ t₂ : List ℕ) → Puts s at part r₁ t₁ → Puts s at part r₂ t₂ → (r₁ ≡ r₂) × (t₁ ≡ t₂)
 puts-unique s at part r₁ r₂ t₁ t₂ p q = (unique (p .answer) (q .answer), unique (p .bytes) (q .bytes))
 

@@ -1,3 +1,4 @@
 pub mod Numbering
 pub mod Fields
 pub mod Looking
+pub mod Unique

@@ -83,8 +83,8 @@ impl Numbers {
         if self.begun == Numbers::LAST {
             return self;
         }
+        self.last[at] = self.begun + 1;
         self.begun += 1;
-        self.last[at] = self.begun;
         self
     }
 }

@@ -25,10 +25,22 @@ mul-self c = search needs
 element-write-self : tie.Need-element-write-self
 element-write-self c = search needs
 
+add-self-2 : tie.Need-add-self-2
+add-self-2 c = search needs
+
 returns-5 : tie.Need-returns-5
 returns-5 c = search one-more
 
 pub after-spec : {M : Type 1} → statement M
 after-spec =
     tie.close
-    (tie.spec returns returns-2 returns-3 returns-4 add-self mul-self element-write-self returns-5)
+    (tie.spec
+    returns
+    returns-2
+    returns-3
+    returns-4
+    add-self
+    mul-self
+    element-write-self
+    add-self-2
+    returns-5)
