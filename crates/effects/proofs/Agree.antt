@@ -1,7 +1,7 @@
 -- The `co` and `r` lines of a trace, event by event.
 use mathlib.Core.Bool.{Bool, true, false, cond}
-use mathlib.Core.List.{List, [], _∷_, _++_, map, map-append}
-use mathlib.Core.Path.{_≡_, refl, sym, ap, ap₂, _∙_}
+use mathlib.Core.List.{List, [], _∷_, _++_, map, map-append, append-assoc, flatMap}
+use mathlib.Core.Path.{_≡_, refl, sym, ap₂, _∙_}
 use Prim.Native.Nat.{ℕ}
 use native.Mathlib.Omega.{arith}
 use borrow.Author.Tests.{eqb-true, ne-eqb}
@@ -10,29 +10,16 @@ use Rattle.rules.specs.State.{writesOf, commitOf}
 use Rattle.history.specs.History.{Event, ownSlot, accepts, fromShared, committedBy, commits, SharedRead, readBy, sharedReads}
 use Rattle.effects.specs.Effects.{Effect, begun, readShared, reloaded, committed, aborted, writtenCells, aborts, numberOf, effectOf, effectsAfter}
 use Rattle.apart.proofs.Tests.{fails}
-use Rattle.effects.specs.Agree.{ShownCommit, commitsShown, shownOf, cellsShown, Agrees}
+use Rattle.effects.specs.Agree.{commitShown, commitsShown, shownOf, cellShown, cellsShown, Agrees}
 
--- what effects show, and what more of them do
-commits-both : (l m : List Effect) → commitsShown (l ++ m) ≡ commitsShown l ++ commitsShown m
-commits-both [] m = refl
-commits-both (begun slot number ∷ l) m = commits-both l m
-commits-both (readShared slot number cell ∷ l) m = commits-both l m
-commits-both (reloaded slot number ∷ l) m = commits-both l m
-commits-both (committed slot number stamp cells ∷ l) m = ap (λ (x : List ShownCommit). record { stamp = stamp; cells = cells } ∷ x) (commits-both l m)
-commits-both (aborted slot number ∷ l) m = commits-both l m
-
-cells-both : (l m : List Effect) → cellsShown (l ++ m) ≡ cellsShown l ++ cellsShown m
-cells-both [] m = refl
-cells-both (begun slot number ∷ l) m = cells-both l m
-cells-both (readShared slot number cell ∷ l) m = ap (λ (x : List ℕ). cell ∷ x) (cells-both l m)
-cells-both (reloaded slot number ∷ l) m = cells-both l m
-cells-both (committed slot number stamp cells ∷ l) m = cells-both l m
-cells-both (aborted slot number ∷ l) m = cells-both l m
+-- the cell of a read
+abbrev cellOf : SharedRead → ℕ
+cellOf r = r .cell
 
 -- one event: the tests of its effect
 module _ (number : ℕ) (e : Event) where
-  abbrev effectBy : Bool → Bool → Bool → Bool → Bool → List Effect
-  effectBy a b c d f =
+  abbrev tested : Bool → Bool → Bool → Bool → Bool → List Effect
+  tested a b c d f =
       let slot = e .call .slot in
       cond a (begun slot number ∷ [])
       (cond b (readShared slot number (e .call .cell) ∷ [])
@@ -43,7 +30,8 @@ module _ (number : ℕ) (e : Event) where
 
   -- a commit is shown if no test before it holds
   commit-shown : (a b c d f : Bool) → (d ≡ true → (a ≡ false) × (b ≡ false) × (c ≡ false))
-      → commitsShown (effectBy a b c d f) ≡ map shownOf (cond d (committedBy (ownSlot e) ∷ []) [])
+      → commitsShown (tested a b c d f) ≡ map shownOf (cond d (committedBy (ownSlot e) ∷ []) [])
+  unfolding flatMap
   commit-shown a b c true f alone = rw (alone refl .0, alone refl .1, alone refl .2)
   commit-shown true b c false f alone = refl
   commit-shown false true c false f alone = refl
@@ -52,7 +40,8 @@ module _ (number : ℕ) (e : Event) where
   commit-shown false false false false false alone = refl
 
   -- .. and so is a read
-  read-shown : (a b c d f : Bool) → (b ≡ true → a ≡ false) → cellsShown (effectBy a b c d f) ≡ map (λ (r : SharedRead). r .cell) (cond b (readBy e ∷ []) [])
+  read-shown : (a b c d f : Bool) → (b ≡ true → a ≡ false) → cellsShown (tested a b c d f) ≡ map cellOf (cond b (readBy e ∷ []) [])
+  unfolding flatMap
   read-shown a true c d f alone = rw (alone refl)
   read-shown true false c d f alone = refl
   read-shown false false true d f alone = refl
@@ -72,29 +61,42 @@ module _ (number : ℕ) (e : Event) where
       commit-shown (accepts 1 e) (fromShared e) (accepts 10 e) (accepts 12 e) (aborts e)
       (λ p. (one-step 12 1 (λ q. omega arith) p, fails _ _ (one-step 12 2 (λ q. omega arith) p), one-step 12 10 (λ q. omega arith) p))
 
-  here-reads : cellsShown (effectOf number e) ≡ map (λ (r : SharedRead). r .cell) (cond (fromShared e) (readBy e ∷ []) [])
+  here-reads : cellsShown (effectOf number e) ≡ map cellOf (cond (fromShared e) (readBy e ∷ []) [])
   unfolding effectOf
   here-reads =
       read-shown (accepts 1 e) (fromShared e) (accepts 10 e) (accepts 12 e) (aborts e) (λ p. one-step 2 1 (λ q. omega arith) (and-left _ _ p))
 
--- .. and all of them, after any past
-commits-agree : (past events : List Event) → commitsShown (effectsAfter past events) ≡ map shownOf (commits events)
-unfolding effectsAfter commits
-commits-agree past [] = refl
-commits-agree past (e ∷ events) =
-    let number = numberOf (e ∷ past) (e .call .slot) in
-    commits-both (effectOf number e) (effectsAfter (e ∷ past) events)
-    ∙ ap₂ _++_ (here-commits number e) (commits-agree (e ∷ past) events)
-    ∙ sym (map-append shownOf (cond (accepts 12 e) (committedBy (ownSlot e) ∷ []) []) (commits events))
+-- what effects show, and what more of them do
+shown-both : {A : Type 0} (shown : Effect → List A) (l m : List Effect) → flatMap shown (l ++ m) ≡ flatMap shown l ++ flatMap shown m
+unfolding flatMap
+shown-both shown [] m = refl
+shown-both shown (x ∷ l) m = rw (shown-both shown l m) (sym (append-assoc (shown x) (flatMap shown l) (flatMap shown m)))
 
-reads-agree : (past events : List Event) → cellsShown (effectsAfter past events) ≡ map (λ (r : SharedRead). r .cell) (sharedReads events)
-unfolding effectsAfter sharedReads
-reads-agree past [] = refl
-reads-agree past (e ∷ events) =
-    let number = numberOf (e ∷ past) (e .call .slot) in
-    cells-both (effectOf number e) (effectsAfter (e ∷ past) events)
-    ∙ ap₂ _++_ (here-reads number e) (reads-agree (e ∷ past) events)
-    ∙ sym (map-append (λ (r : SharedRead). r .cell) (cond (fromShared e) (readBy e ∷ []) []) (sharedReads events))
+-- All events, after any past: what is gathered of the events one by one is what their effects show
+module _ {A : Type 0} (shown : Effect → List A) (here : Event → List A) (gather : List Event → List A) (none : gather [] ≡ [])
+    (more : (e : Event) (events : List Event) → gather (e ∷ events) ≡ here e ++ gather events) (one : (number : ℕ) (e : Event) → flatMap shown (effectOf number e) ≡ here e) where
+  all-agree : (past events : List Event) → flatMap shown (effectsAfter past events) ≡ gather events
+  unfolding effectsAfter flatMap
+  all-agree past [] = sym none
+  all-agree past (e ∷ events) =
+      let number = numberOf (e ∷ past) (e .call .slot) in
+      shown-both shown (effectOf number e) (effectsAfter (e ∷ past) events)
+      ∙ ap₂ _++_ (one number e) (all-agree (e ∷ past) events)
+      ∙ sym (more e events)
+
+commits-more : (e : Event) (events : List Event)
+    → map shownOf (commits (e ∷ events)) ≡ map shownOf (cond (accepts 12 e) (committedBy (ownSlot e) ∷ []) []) ++ map shownOf (commits events)
+unfolding commits
+commits-more e events = map-append shownOf (cond (accepts 12 e) (committedBy (ownSlot e) ∷ []) []) (commits events)
+
+reads-more : (e : Event) (events : List Event) → map cellOf (sharedReads (e ∷ events)) ≡ map cellOf (cond (fromShared e) (readBy e ∷ []) []) ++ map cellOf (sharedReads events)
+unfolding sharedReads
+reads-more e events = map-append cellOf (cond (fromShared e) (readBy e ∷ []) []) (sharedReads events)
 
 pub agrees : Agrees
-agrees = record { commitsAgree = commits-agree []; readsAgree = reads-agree [] }
+unfolding commits sharedReads
+agrees =
+    record {
+      commitsAgree = all-agree commitShown _ (λ events. map shownOf (commits events)) refl commits-more here-commits [];
+      readsAgree = all-agree cellShown _ (λ events. map cellOf (sharedReads events)) refl reads-more here-reads [];
+    }

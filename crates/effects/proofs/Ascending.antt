@@ -6,23 +6,25 @@ use Prim.Native.Nat.{ℕ, pred}
 use lib.Dec.{ltb}
 use Rattle.slot.specs.Logic.{pairwise, All}
 use Rattle.slot.specs.declared.WriteEntry.{WriteEntry}
-use Rattle.slot.proofs.Logic.{and-left, and-right, pairwise-map}
+use Rattle.slot.proofs.Logic.{and-right, pairwise-map}
 use Rattle.rules.specs.declared.Cell.{Cell}
 use Rattle.rules.specs.Model.{Model, FitsBytes}
 use Rattle.rules.specs.State.{State, Slot, idle, opened, locking, twilight, publishing, slotAt, writesOf}
 use Rattle.rules.specs.LogsRight.{writesRight}
-use Rattle.rules.specs.StateRight.{stateRight, stateAtRest}
+use Rattle.rules.specs.StateRight.{stateRight}
 use Rattle.rules.specs.Outcome.{replyOf, after}
 use Rattle.rules.specs.Step.{Call, step}
 use Rattle.rules.specs.Layout.{stateOf}
 use Rattle.history.specs.History.{Event, Commit, history, ownSlot, accepts, committedBy, commits}
-use Rattle.history.proofs.Histories.{same-history, rest-state, rest-right}
+use Rattle.rules.proofs.RoundTrip.{state-right}
+use Rattle.history.proofs.Histories.{same-history}
 use Rattle.history.proofs.Keeps.Lists.{cond-elim}
 use Rattle.history.proofs.Keeps.Moves.{step-keeps}
 use Rattle.history.proofs.Keeps.Slots.{SlotHolds, slot-holds}
 use Rattle.history.proofs.Right.{right-of}
 use Rattle.effects.specs.Effects.{writtenCells}
-use Rattle.effects.specs.Agree.{ShownCommit, shownOf, Ascends, Ascending}
+use Rattle.effects.specs.Agree.{ShownCommit, shownOf}
+use Rattle.effects.specs.Ascending.{Ascends, Ascending}
 use Rattle.effects.proofs.Agree.{agrees}
 
 -- cells that ascend
@@ -59,14 +61,12 @@ module _ (M : Model) where
       (accepts 12 e) (committedBy (ownSlot e) ∷ []) []
       (λ h. (state-ascends S right (pred (a .slot)), rest)) (λ h. rest)
 
-  states-ascend : (S : State) → stateAtRest M S ≡ true → (calls : List Call) → Ascends (history (step M) S calls)
-  unfolding stateAtRest
-  states-ascend S rest calls = rw (agrees .commitsAgree (history (step M) S calls)) (history-ascends calls S (and-left _ _ rest))
+  states-ascend : (S : State) → stateRight M S ≡ true → (calls : List Call) → Ascends (history (step M) S calls)
+  states-ascend S right calls = rw (agrees .commitsAgree (history (step M) S calls)) (history-ascends calls S right)
 
   pub ascending : FitsBytes M → Ascending M
   ascending fits =
       record {
         ofStates = states-ascend;
-        ofAreas = λ a bytes rest calls.
-            rw (same-history M fits calls a bytes (rest-right M fits a rest)) (states-ascend (stateOf M a) (rest-state M fits a bytes rest) calls);
+        ofAreas = λ a bytes right calls. rw (same-history M fits calls a bytes right) (states-ascend (stateOf M a) (state-right M a bytes right) calls);
       }

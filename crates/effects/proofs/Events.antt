@@ -117,7 +117,7 @@ module _ (a : List ℕ) (kept : Kept a) (call : Call) (past : List Event) (v : N
       by : (s z : Bool) → eqb (call .step) 1 ≡ s → eqb (codeOn a call) 0 ≡ z → Counted now (numbersOn a call v)
       by true true p q = begins-here (eqb-true _ 1 p) (eqb-true _ 0 q) few
       by true false p q =
-          silent (goes-on _ _ p q) (refused-begin v (call .step) (call .slot) (codeOn a call) (eqb-true _ 1 p) (eqb-false _ 0 q))
+          silent (goes-on _ _ p q) (refused-begin v (call .step) (call .slot) (codeOn a call) (eqb-false _ 0 q))
       by false z p q = silent (fails _ _ p) (no-begin v (call .step) (call .slot) (codeOn a call) (eqb-false _ 1 p))
 
 -- a run of the steps `l` from an area `a` on

@@ -6,5 +6,6 @@ pub mod States
 pub mod SheetS
 pub mod Agree
 pub mod Ascending
+pub mod Numbered
 pub mod Whole
 pub mod Unique

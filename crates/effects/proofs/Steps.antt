@@ -1,15 +1,12 @@
 -- The steps of a sheet and the lines of their effects, one after the other.
 use mathlib.Core.List.{List, [], _∷_, _++_, append-assoc, append-nil, map-map}
-use mathlib.Core.Path.{_≡_, refl, ap, _∙_}
-use Prim.Native.Nat.{ℕ, _+_, _*_, _-_, _/_, _^_}
+use mathlib.Core.Path.{_≡_, refl, _∙_}
+use Prim.Native.Nat.{ℕ, _+_, _-_, _/_, _^_}
 use native.Mathlib.Numerals.{add-one}
-use native.Mathlib.Omega.{arith}
-use lib.ListN.{getD, take, drop}
+use lib.ListN.{getD}
 use Rattle.slot.specs.Logs.{writeLog}
 use Rattle.slot.specs.declared.SlotRecord.{SlotRecord}
 use Rattle.slot.specs.declared.WriteEntry.{WriteEntry}
-use Rattle.rules.specs.Model.{controller}
-use Rattle.rules.specs.Area.{stepOnBytes}
 use Rattle.crocktendril.specs.Contract.{Stepped}
 use Rattle.crocktendril.proofs.Demands.{demand1}
 use Rattle.apart.specs.Apart.{byteAt}
@@ -36,37 +33,28 @@ told-parts Aborted slot number cell v = refl
 told-parts Nothing slot number cell v = refl
 
 -- one step: what was looked at before it, and its code
-pub step-traced : (a step out : List ℕ) (v : Numbers) (at : ℕ) {kind slot cell r number end : ℕ} {before : Before} {after : Numbers} {b t : List ℕ}
-    → kind ≡ byteAt step 0 → slot ≡ byteAt step 1 → cell ≡ byteAt step 2 → before ≡ lookedAt a slot cell → Stepped a (callOf step) r b
-    → after ≡ numbersAfter v kind slot (r / 2 ^ 40) → number ≡ getD (after .last) slot 0
-    → Leaves (addedParts (stepParts before kind (r / 2 ^ 40) slot number cell) (gathered at out)) end t
-    → StepTraced a (callOf step) v out at (record { numbers = after; end = end }) b t
+pub step-traced : (a bytes out : List ℕ) (v : Numbers) (at : ℕ) {step slot cell r number end : ℕ} {before : Before} {after : Numbers} {b t : List ℕ}
+    → step ≡ byteAt bytes 0 → slot ≡ byteAt bytes 1 → cell ≡ byteAt bytes 2 → before ≡ lookedAt a slot cell → Stepped a (callOf bytes) r b
+    → after ≡ numbersAfter v step slot (r / 2 ^ 40) → number ≡ getD (after .last) slot 0
+    → Leaves (addedParts (stepParts before step (r / 2 ^ 40) slot number cell) (gathered at out)) end t
+    → StepTraced a (callOf bytes) v out at (record { numbers = after; end = end }) b t
 unfolding callOf effectOn
-step-traced a step out v at kind slot cell looked made counted number lines =
-    let code = demand1 .code a (callOf step) _ _ made in
+step-traced a bytes out v at step slot cell looked made counted number lines =
+    let code = demand1 .code a (callOf bytes) _ _ made in
     record {
       area = made .bytes;
-      numbers = rw (kind, slot, code) at counted;
-      lines = rw (told-parts, number, counted, looked, kind, slot, cell, code) at lines;
+      numbers = rw (step, slot, code) at counted;
+      lines = rw (told-parts, number, counted, looked, step, slot, cell, code) at lines;
     }
 
--- the 8 bytes of step k stand at 8 × k
-pub traced-at : {x out : List ℕ} {v : Numbers} {at : ℕ} {r : Traced} {y t : List ℕ} (l : List ℕ) (k : ℕ)
-    → StepTraced x (callOf (take (8 * k + 8 - 8 * k) (drop (8 * k) l))) v out at r y t → StepTraced x (callAt l k) v out at r y t
-traced-at l k made = let size : 8 * k + 8 - 8 * k ≡ 8 = omega arith in rw size at made
-
 -- the parts of the lines of effects, and of more
-pub parts-both : (effects more : List Effect) → partsOf (effects ++ more) ≡ partsOf effects ++ partsOf more
+parts-both : (effects more : List Effect) → partsOf (effects ++ more) ≡ partsOf effects ++ partsOf more
 parts-both [] more = refl
 parts-both (x ∷ effects) more = rw (parts-both effects more, append-assoc)
 
 -- a turn of the loop
 module _ (a l out₀ : List ℕ) (k : ℕ) {x out : List ℕ} {v : Numbers} {at : ℕ} {r : Traced} {y t : List ℕ}
     (here : x ≡ areaAfter a l k) (numbers : v ≡ numbersAt a l k) (made : StepTraced x (callAt l k) v out at r y t) where
-  pub area-next : y ≡ areaAfter a l (k + 1)
-  unfolding areaAfter
-  area-next = rw (add-one k) (made .area ∙ ap (λ (z : List ℕ). stepOnBytes controller z (callAt l k) .bytes) here)
-
   pub numbers-next : r .numbers ≡ numbersAt a l (k + 1)
   unfolding numbersAt
   numbers-next = rw (add-one k) (made .numbers ∙ rw (here, numbers))

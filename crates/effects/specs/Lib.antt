@@ -1,6 +1,9 @@
 pub mod Effects
 pub mod Trace
 pub mod Agree
+pub mod Ascending
+pub mod Numbered
 pub mod Steps
 pub mod Traced
+pub mod States
 pub mod SheetS

@@ -16,16 +16,16 @@ pub struct Traced {
 pub const MOST_TRACE: usize = 49152;
 
 // Makes the step that 8 bytes say, and puts the line of its effect.
-fn trace_step(area: &mut [u8], step: &[u8], numbers: Numbers, out: &mut [u8], at: usize) -> Traced
-    ensures { λ r. ⌜ StepTraced (now (area .entry)) (callOf (now (step .entry))) numbers (now (out .entry)) at r (now (area .exit)) (now (out .exit)) ⌝ }
+fn trace_step(area: &mut [u8], bytes: &[u8], numbers: Numbers, out: &mut [u8], at: usize) -> Traced
+    ensures { λ r. ⌜ StepTraced (now (area .entry)) (callOf (now (bytes .entry))) numbers (now (out .entry)) at r (now (area .exit)) (now (out .exit)) ⌝ }
 {
-    let kind = apart::byte(step, 0);
-    let slot = apart::byte(step, 1);
-    let cell = apart::byte(step, 2);
+    let step = apart::byte(bytes, 0);
+    let slot = apart::byte(bytes, 1);
+    let cell = apart::byte(bytes, 2);
     let before = telling::look(area, slot, cell);
-    let code = stage::make_step(area, step) / line::CODE;
-    let after = numbers.after(kind, slot, code);
-    let end = telling::put_line(out, at, before, kind, code, slot, after.of(slot), cell);
+    let code = stage::make_step(area, bytes) / line::CODE;
+    let after = numbers.after(step, slot, code);
+    let end = telling::put_line(out, at, before, step, code, slot, after.of(slot), cell);
     Traced {
         numbers: after,
         end,

@@ -11,7 +11,7 @@ use lib.ListN.{length, take, drop, set, length-append, length-drop, length-set, 
 use lib.Seq.{length-take-le, set-at, drop-at, take-all, drop-cons, getD-set-same, drop-set-lt}
 use Rattle.line.specs.declared.Style.{Style}
 use Rattle.line.specs.declared.Style.the-variants.{Decimal, Hex}
-use Rattle.line.specs.Number.{digit, digits, baseOf, numeral}
+use Rattle.line.specs.Number.{digit, digits, baseOf, leastOf, numeral}
 use Rattle.line.specs.Line.{field}
 use Rattle.line.specs.Spelt.{digitsFor, Spelt}
 
@@ -64,6 +64,13 @@ module _ (base : ℕ) where
   digits-few pos (suc k) (suc least) (suc most) n h fit =
       bound false (digits base least most (n / base)) (digit (n % base)) k
       (digits-few pos k least most (n / base) (div-lt-iff-lt-mul pos .1 (rw pow-suc at h)) (omega arith))
+
+-- a number below the base to the power k has at most k digits
+pub few : (style : Style) (k n : ℕ) → n < baseOf style ^ k → leastOf style ≤ k → length (numeral style n) ≤ k
+few style k n h least = digits-few (baseOf style) (base-positive style) k (leastOf style) 20 n h least
+
+pub most : (style : Style) (n : ℕ) → length (numeral style n) ≤ 20
+most style n = digits-most (baseOf style) (leastOf style) 20 n
 
 -- a digit is stored before those that are there
 back : (text : List ℕ) (j v : ℕ) → j < length text → drop j (set text j v) ≡ v ∷ drop (suc j) text

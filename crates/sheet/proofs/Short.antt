@@ -1,25 +1,32 @@
 -- How long the lines of a run are at most.
 use mathlib.Core.List.{List}
 use mathlib.Core.Path.{_≡_, refl}
-use Prim.Native.Nat.{ℕ, _+_, _%_, _^_, _<_, _≤_}
+use Prim.Native.Nat.{ℕ, zero, suc, _+_, _*_, _%_, _^_, _<_, _≤_}
+use native.Mathlib.Nat.{mul-suc}
 use native.Mathlib.Omega.{arith}
 use lib.ListN.{length, getD, drop, length-append}
 use Rattle.wire.specs.Field.{Bytes, be}
+use Rattle.wire.specs.Table.{cat}
 use Rattle.wire.proofs.Laws.Field.{be-bound, bytes-drop}
 use Rattle.call.specs.Answer.{replyCode, replyKind, replyWord, replyNumber}
 use Rattle.call.proofs.Answer.{code-bound, kind-bound}
 use Rattle.line.specs.declared.Style.the-variants.{Decimal, Hex}
 use Rattle.line.specs.Line.{replyLine, cellLine, clockLine}
+use Rattle.line.proofs.Number.{few, most}
 use Rattle.rules.specs.Model.{controller, cellOffset}
 use Rattle.rules.specs.Layout.{countIn, cellOf, clockIn}
 use Rattle.rules.specs.Area.{stepOnBytes}
 use Rattle.crocktendril.specs.Contract.{Stepped}
 use Rattle.crocktendril.proofs.Demands.{demand1}
 use Rattle.stage.specs.Calls.{callAt, stepCount, areaAfter, endArea}
-use Rattle.stage.proofs.First.{long-bad}
-use Rattle.stage.proofs.Short.{cat-short, few, most}
-use Rattle.sheet.specs.Output.{stepLine, lineInArea, printed, output}
-use Rattle.sheet.specs.Whole.{LongIsBad}
+use Rattle.sheet.specs.Output.{stepLine, lineInArea, printed}
+
+-- n lines of at most `size` bytes
+cat-short : (size n : ℕ) (f : ℕ → List ℕ) → ((i : ℕ) → i < n → length (f i) ≤ size) → length (cat n f) ≤ size * n
+unfolding cat
+cat-short size zero f h = omega arith
+cat-short size (suc n) f h =
+    rw (length-append, mul-suc) (omega (arith, cat-short size n f (λ i b. h i (omega arith)), h n (omega arith)))
 
 reply-short : (place code kind word : ℕ) → place < 10 ^ 4 → code < 10 ^ 2 → kind < 10 ^ 1 → word < 16 ^ 8 → length (replyLine place code kind word) ≤ 19
 unfolding replyLine
@@ -73,6 +80,3 @@ printed-short a l steps bytes cells =
     ))
 
 -- a sheet that is too long is bad
-pub long-is-bad : LongIsBad
-unfolding output
-long-is-bad s h = let bad = long-bad s h in rw bad

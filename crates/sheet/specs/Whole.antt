@@ -1,18 +1,11 @@
 -- A sheet `s` run with a lent area and a lent buffer: the answer, and every byte of both.
 use mathlib.Core.List.{List}
-use mathlib.Core.Path.{_≡_}
-use Prim.Native.Nat.{ℕ, _+_, _*_, _<_}
-use lib.ListN.{length}
+use Prim.Native.Nat.{ℕ, _+_, _*_}
 use Rattle.rules.specs.Model.{controller}
 use Rattle.apart.specs.Apart.{mostSteps}
 use Rattle.stage.specs.declared.Ran.{Ran}
-use Rattle.stage.specs.First.{badSheet, mostSheet}
 use Rattle.stage.specs.Printed.{Printed}
 use Rattle.sheet.specs.Output.{output}
-
--- a sheet that is longer than the longest good one is bad
-abbrev pub LongIsBad : Type 0
-LongIsBad = (s : List ℕ) → mostSheet < length s → output s ≡ badSheet
 
 -- room for the longest output: a step's line has at most 19 bytes, a cell's 46, the clock's 27
 abbrev pub mostOutput : ℕ

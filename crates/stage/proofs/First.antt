@@ -2,7 +2,7 @@
 use mathlib.Core.Bool.{Bool, true, false}
 use mathlib.Core.List.{List}
 use mathlib.Core.Path.{_≡_, refl, sym, ap, _∙_}
-use Prim.Native.Nat.{ℕ, zero, suc, _+_, _*_, _<_}
+use Prim.Native.Nat.{ℕ, zero, suc, _+_, _*_}
 use native.Mathlib.Omega.{arith}
 use borrow.Author.Tests.{eq-eqb, le-leb}
 use lib.ListN.{length, drop, length-drop, length-replicate}
@@ -15,7 +15,7 @@ use Rattle.rules.specs.StateRight.{stateRight}
 use Rattle.rules.specs.LogsRight.{cellCountRight}
 use Rattle.rules.specs.Layout.{pack}
 use Rattle.rules.specs.AreaRight.{wellFormed}
-use Rattle.rules.specs.Area.{describedCount, describedCell, describedCells, fresh, lengthsFit, layOut}
+use Rattle.rules.specs.Area.{atRest, describedCount, describedCell, describedCells, fresh, lengthsFit, layOut}
 use Rattle.rules.proofs.Controller.{controller-fits}
 use Rattle.rules.proofs.LaidOut.{laid-right, lays-out}
 use Rattle.rules.proofs.Places.{length-pack}
@@ -25,7 +25,7 @@ use Rattle.fresh.specs.Parts.{describedLegal}
 use Rattle.apart.specs.Apart.{describedLength, descriptions, goodSheet}
 use Rattle.apart.proofs.Apart.{GoodParts, good-parts}
 use Rattle.stage.specs.Calls.{callAt, areaAfter}
-use Rattle.stage.specs.First.{blank, firstArea, mostSheet}
+use Rattle.stage.specs.First.{blank, firstArea, LongIsBad}
 
 -- an area as a step leaves it
 pub record Kept (a : List ℕ) : Type 0 where
@@ -43,8 +43,8 @@ kept-after a l h (suc k) =
     }
 
 -- a good sheet has at most 33,093 bytes, so a longer one is bad
-pub long-bad : (s : List ℕ) → mostSheet < length s → goodSheet s ≡ false
-long-bad s h = by (goodSheet s) refl
+pub long-is-bad : LongIsBad
+long-is-bad s h = by (goodSheet s) refl
   where
     by : (b : Bool) → goodSheet s ≡ b → goodSheet s ≡ false
     by true p = let good = good-parts s p in absurd (omega arith)
@@ -99,3 +99,6 @@ module _ {s : List ℕ} {cells first steps : ℕ} (good : GoodParts s cells firs
       let S = fresh controller (describedCells (descriptions s)) in
       rw first-packed
       (record { right = pack-right controller controller-fits S first-right; bytes = round-trip controller controller-fits .packBytes S first-right })
+
+  pub first-rests : atRest controller (firstArea s) ≡ true
+  first-rests = lays-out controller controller-fits .rests (blank s) (descriptions s) (accepted (blank s) zeros)

@@ -1,10 +1,12 @@
 -- What a sheet's run starts from: its area, laid out. What a bad sheet prints, and how long a sheet and its area are at most.
+use mathlib.Core.Bool.{false}
 use mathlib.Core.List.{List, [], _∷_}
-use Prim.Native.Nat.{ℕ, _+_, _*_}
-use lib.ListN.{replicate}
+use mathlib.Core.Path.{_≡_}
+use Prim.Native.Nat.{ℕ, _+_, _*_, _<_}
+use lib.ListN.{length, replicate}
 use Rattle.rules.specs.Model.{controller, areaLength}
 use Rattle.rules.specs.Area.{descriptionSize, layOut}
-use Rattle.apart.specs.Apart.{stepSize, mostSteps, descriptions, cellsOf}
+use Rattle.apart.specs.Apart.{stepSize, mostSteps, descriptions, cellsOf, goodSheet}
 
 -- bytes as many as the area needs
 abbrev pub blank : List ℕ → List ℕ
@@ -25,3 +27,7 @@ mostSheet = 5 + descriptionSize * controller .cells + stepSize * mostSteps
 -- the longest area
 abbrev pub mostArea : ℕ
 mostArea = areaLength controller (controller .cells)
+
+-- a sheet that is longer than the longest good one is bad
+abbrev pub LongIsBad : Type 0
+LongIsBad = (s : List ℕ) → mostSheet < length s → goodSheet s ≡ false

@@ -33,7 +33,7 @@ module _ (log : List WriteEntry) (n i : ℕ) where
   pub cells-all : length (take n log) ≤ i → fieldsOf (take i (take n log)) ≡ fieldsOf (take n log)
   cells-all h = ap fieldsOf (take-all i (take n log) h)
 
--- neither a read nor a commit has more than its slot and its number
+-- what is neither a read nor a commit has nothing behind its number
 pub no-rest : (shown : Shown) (cell : ℕ) (v : SlotRecord) → OneOf (0 ∷ 2 ∷ 3 ∷ 4 ∷ 5 ∷ []) (tagOf the-type shown)
     → OneOf (0 ∷ 1 ∷ 2 ∷ 4 ∷ 5 ∷ []) (tagOf the-type shown) → restParts shown cell v ≡ []
 no-rest Begun cell v p q = refl

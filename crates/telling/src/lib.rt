@@ -83,8 +83,9 @@ impl Numbers {
         if self.begun == Numbers::LAST {
             return self;
         }
-        self.last[at] = self.begun + 1;
-        self.begun += 1;
+        let number = self.begun + 1;
+        self.last[at] = number;
+        self.begun = number;
         self
     }
 }
@@ -117,7 +118,8 @@ pub fn look(area: &[u8], slot: u8, cell: u8) -> Before
     ensures { λ r. ⌜ r ≡ lookedAt (now (area .entry)) slot cell ⌝ }
 {
     let cells = apart::byte(area, COUNT) as usize;
-    let at = HEADER + CELL * cells + SLOT * (index(slot) as usize);
+    let first = HEADER + CELL * cells;
+    let at = first + SLOT * (index(slot) as usize);
     if area.len() < at + SLOT {
         return Before {
             logged: false,

@@ -8,7 +8,7 @@ use Rattle.slot.specs.Logic.{All}
 use Rattle.line.specs.Number.{decimal}
 use Rattle.line.specs.Line.{line}
 use Rattle.line.specs.declared.Style.the-variants.{Decimal}
-use Rattle.stage.proofs.Short.{few}
+use Rattle.line.proofs.Number.{few}
 use Rattle.effects.specs.Effects.{Effect}
 use Rattle.effects.specs.Trace.{effectWord, effectFields, effectLine, trace}
 

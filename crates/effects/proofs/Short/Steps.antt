@@ -21,7 +21,7 @@ use Rattle.slot.proofs.Logic.{and-left, and-right, and-false}
 use Rattle.slot.proofs.Laws.Operations.{put-length}
 use Rattle.line.specs.declared.Style.the-variants.{Decimal}
 use Rattle.line.specs.Number.{decimal}
-use Rattle.stage.proofs.Short.{few}
+use Rattle.line.proofs.Number.{few}
 use Rattle.rules.specs.declared.Cell.{Cell}
 use Rattle.rules.specs.Model.{controller}
 use Rattle.rules.specs.State.{State, Slot, twilight, cellCount, slotAt, turn}

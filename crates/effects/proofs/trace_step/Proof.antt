@@ -43,9 +43,9 @@ returns c =
     let c : tie.After-look = search in let looked = c .look .ensures in
     let c : tie.After-byte3 = search in let cell = c .byte3 .ensures in
     let c : tie.After-byte2 = search in let slot = c .byte2 .ensures in
-    let c : tie.After-byte = search in let kind = c .byte .ensures in
+    let c : tie.After-byte = search in let step = c .byte .ensures in
     let c : tie.Start = search in
-    step-traced (c .args .area .now) (c .args .step .now) (c .args .out .now) (c .args .numbers) (c .args .at) kind slot cell looked made counted number lines
+    step-traced (c .args .area .now) (c .args .bytes .now) (c .args .out .now) (c .args .numbers) (c .args .at) step slot cell looked made counted number lines
 
 pub trace-step-spec : {M : Type 1} → statement M
 trace-step-spec =

@@ -6,8 +6,9 @@ use lib.ListN.{length}
 use Rattle.line.specs.Gather.{gathered, addedParts, Leaves}
 use Rattle.line.proofs.Gather.{leaves-none}
 use Rattle.stage.specs.Calls.{areaAfter}
+use Rattle.stage.proofs.Steps.{step-at, next-area}
 use Rattle.effects.specs.Steps.{partsOf, numbersAt, effectsUpTo}
-use Rattle.effects.proofs.Steps.{traced-at, area-next, numbers-next, lines-next}
+use Rattle.effects.proofs.Steps.{numbers-next, lines-next}
 use Rattle.effects.proofs.trace_steps.Statement.{statement}
 use Rattle.effects.proofs.trace_steps.Tie as tie
 
@@ -55,11 +56,11 @@ loop-again c =
     let args = let c : tie.After-none Inv-loop μ-loop = search in let c : tie.Start Inv-loop μ-loop = search in c .args in
     let loop = let c : tie.At-loop Inv-loop μ-loop = search in c .loop in
     let trace-step = let c : tie.After-trace-step Inv-loop μ-loop = search in c .trace-step in
-    let made = traced-at (args .steps .now) (loop .k) (trace-step .ensures) in (
+    let made = rw (step-at (args .steps .now) (loop .k)) at (trace-step .ensures) in (
       omega arith,
       trace-step .kept .0 ∙ loop .inv .1,
       trace-step .kept .1 .1 .1 .0 ∙ loop .inv .2,
-      area-next (args .area .now) (args .steps .now) (args .out .now) (loop .k) (loop .inv .3) (loop .inv .4) made,
+      next-area (args .area .now) (args .steps .now) (loop .k) (loop .inv .3) (made .area),
       numbers-next (args .area .now) (args .steps .now) (args .out .now) (loop .k) (loop .inv .3) (loop .inv .4) made,
       lines-next (args .area .now) (args .steps .now) (args .out .now) (loop .k) (loop .inv .3) (loop .inv .4) made (loop .inv .5),
     )

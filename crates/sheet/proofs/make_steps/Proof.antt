@@ -63,12 +63,12 @@ loop-again c =
     let loop = let c : tie.At-loop Inv-loop μ-loop = search in c .loop in
     let make-step = let c : tie.After-make-step Inv-loop μ-loop = search in c .make-step in
     let reply-line = let c : tie.After-reply-line Inv-loop μ-loop = search in c .reply-line in
-    let made = step-at (args .steps .now) (loop .k) (make-step .ensures) in
+    let made = rw (step-at (args .steps .now) (loop .k)) at (make-step .ensures) in
     let line = next-line (args .area .now) (args .steps .now) (loop .k) _ (loop .area) _ (loop .inv .3) made in (
       omega arith,
       make-step .kept .0 ∙ loop .inv .1,
       reply-line .kept .0 ∙ loop .inv .2,
-      next-area (args .area .now) (args .steps .now) (loop .k) _ (loop .area) _ (loop .inv .3) made,
+      next-area (args .area .now) (args .steps .now) (loop .k) (loop .inv .3) (made .bytes),
       leaves-next (stepLine (args .area .now) (args .steps .now)) (gathered 0 (args .out .now)) (loop .k) (loop .inv .4) line (reply-line .ensures) (c .end-or .ensures),
     )
 

@@ -11,11 +11,11 @@ byte-requires c κs = search needs
 cast-cells : tie.Need-cast-cells
 cast-cells c = search needs
 
-mul-at : tie.Need-mul-at
-mul-at c = search needs
+mul-first : tie.Need-mul-first
+mul-first c = search needs
 
-add-at : tie.Need-add-at
-add-at c = search needs
+add-first : tie.Need-add-first
+add-first c = search needs
 
 index-requires : tie.Need-index-requires
 index-requires c κs = search needs
@@ -23,11 +23,11 @@ index-requires c κs = search needs
 cast-at : tie.Need-cast-at
 cast-at c = search needs
 
-mul-at-2 : tie.Need-mul-at-2
-mul-at-2 c = search needs
+mul-at : tie.Need-mul-at
+mul-at c = search needs
 
-add-at-2 : tie.Need-add-at-2
-add-at-2 c = search needs
+add-at : tie.Need-add-at
+add-at c = search needs
 
 add-if1 : tie.Need-add-if1
 add-if1 c = search needs
@@ -74,12 +74,12 @@ look-spec =
     (tie.spec
     byte-requires
     cast-cells
-    mul-at
-    add-at
+    mul-first
+    add-first
     index-requires
     cast-at
-    mul-at-2
-    add-at-2
+    mul-at
+    add-at
     add-if1
     empty-requires
     returns

@@ -1,4 +1,5 @@
 -- `after` meets its contract: the ways out are no begin, a refused one, no such slot, no number left, and one more transaction.
+use native.Mathlib.Omega.{arith}
 use Rattle.telling.proofs.Numbering.{no-begin, refused-begin, no-place, none-left, one-more}
 use borrow.Author.Needs.{needs}
 use Rattle.telling.proofs.Numbers.after.Statement.{statement}
@@ -8,7 +9,7 @@ returns : tie.Need-returns
 returns c = search no-begin
 
 returns-2 : tie.Need-returns-2
-returns-2 c = search refused-begin
+returns-2 c = refused-begin _ _ _ _ (λ e. omega arith)
 
 returns-3 : tie.Need-returns-3
 returns-3 c = search no-place
@@ -16,17 +17,14 @@ returns-3 c = search no-place
 returns-4 : tie.Need-returns-4
 returns-4 c = search none-left
 
-add-self : tie.Need-add-self
-add-self c = search needs
+add-number : tie.Need-add-number
+add-number c = search needs
 
 mul-self : tie.Need-mul-self
 mul-self c = search needs
 
 element-write-self : tie.Need-element-write-self
 element-write-self c = search needs
-
-add-self-2 : tie.Need-add-self-2
-add-self-2 c = search needs
 
 returns-5 : tie.Need-returns-5
 returns-5 c = search one-more
@@ -39,8 +37,7 @@ after-spec =
     returns-2
     returns-3
     returns-4
-    add-self
+    add-number
     mul-self
     element-write-self
-    add-self-2
     returns-5)
