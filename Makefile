@@ -2,7 +2,7 @@
 # make lib:     the static libraries for C, target/staticlib/libcrocktendril.a and libwear.a beside it.
 # make example: builds and runs examples/c/two_tasks.c and wear.c, and compares what they print.
 # make guide:   builds and runs the program in docs/GUIDE.md, and compares what it prints.
-# make guide-sheets: runs the step sheets in docs/GUIDE.md, and compares what they print.
+# make guide-sheets: runs and traces the step sheets in docs/GUIDE.md, and compares replies and traces with what stands there.
 # make fuzz:    random calls at the C functions against the second program (CALLS, SEED), or one ROUND of a seed again.
 # make bench:   the ratio to the Rust yardstick, the stack and the instructions of each step and of the wear task, the time of a sheet.
 # make program: proves and builds the programs that run and that trace step sheets.
@@ -141,12 +141,13 @@ bench: lib linked second
 	$(LINKED)/bench wear | target/c/measure wear-stack
 	python3 oracle/linked/instructions.py $(LINKED)/bench target/c/measure
 
-# The program is called as the target is.
+run: BIN = $(PROGRAM)
+trace: BIN = $(TRACER)
 run trace: %: proved-% second
 	@mkdir -p target/sheets
 	$(SECOND)/sheet assemble "$(SHEET)" > target/sheets/assembled
 	mv target/sheets/assembled target/sheets/$@.sheet
-	target/bin/$@ < target/sheets/$@.sheet
+	$(BIN) < target/sheets/$@.sheet
 
 sheet: second
 	$(SECOND)/sheet run "$(SHEET)"

@@ -1,14 +1,14 @@
 //! The effects of a sheet's run, a line each: request #104.
 //!
 //! A step has an effect or is silent. Silent are all refused steps, the reads
-//! that a log answers, and all accepted steps but begin, reload, a finish and
+//! that a log answers, and all accepted steps but begin, read, reload, finish and
 //! give up.
 
 use std::fmt;
 
 use crate::binary::Sheet;
 use crate::call::{Call, Reply, Step};
-use crate::forms;
+use crate::forms::{self, BAD_SHEET};
 use crate::machine::{Machine, Transaction, SLOTS};
 use crate::text::TextError;
 
@@ -44,7 +44,7 @@ pub enum Deed {
         cells: Vec<u8>,
     },
     /// `ab`: it has given up, or its outcome is 13.
-    Ended,
+    Aborted,
 }
 
 /// The line without its newline.
@@ -59,7 +59,7 @@ impl fmt::Display for Effect {
                 write!(f, "co {slot} {transaction} {stamp}")?;
                 cells.iter().try_for_each(|cell| write!(f, " {cell}"))
             }
-            Deed::Ended => write!(f, "ab {slot} {transaction}"),
+            Deed::Aborted => write!(f, "ab {slot} {transaction}"),
         }
     }
 }
@@ -113,29 +113,30 @@ fn deed(before: Option<&Transaction>, call: Call, reply: Reply) -> Option<Deed> 
             (!logged).then_some(Deed::Read { cell: call.cell })
         }
         (Step::Reload, _) => Some(Deed::Reloaded),
-        (Step::Finish, _) if reply == Reply::Ended => Some(Deed::Ended),
+        (Step::Finish, _) if reply == Reply::Ended => Some(Deed::Aborted),
         (Step::Finish, Some(own)) => {
             let cells = own.writes.iter().map(|write| write.cell).collect();
             Some(Deed::Committed { stamp: own.commit()?.stamp, cells })
         }
-        (Step::GiveUp, _) => Some(Deed::Ended),
+        (Step::GiveUp, _) => Some(Deed::Aborted),
         _ => None,
     }
 }
 
-/// The effects of a sheet's run, each with the place of its step from 1.
-pub fn effects(sheet: &Sheet) -> Vec<(usize, Effect)> {
-    let Some(machine) = Machine::fresh(sheet.cells()) else {
-        return Vec::new();
-    };
-    let mut tracer = Tracer::new(machine);
+/// The effects of a sheet's run, each with the place of its step from 1. None if
+/// there is no machine with its cells.
+pub fn effects(sheet: &Sheet) -> Option<Vec<(usize, Effect)>> {
+    let mut tracer = Tracer::new(Machine::fresh(sheet.cells())?);
     let calls = (1..).zip(sheet.calls());
-    calls.filter_map(|(place, call)| Some((place, tracer.step(*call).1?))).collect()
+    Some(calls.filter_map(|(place, call)| Some((place, tracer.step(*call).1?))).collect())
 }
 
 /// The trace of a sheet: a line for each of its effects.
 pub fn trace(sheet: &Sheet) -> String {
-    effects(sheet).into_iter().map(|(_, effect)| format!("{effect}\n")).collect()
+    let Some(effects) = effects(sheet) else {
+        return BAD_SHEET.to_string();
+    };
+    effects.into_iter().map(|(_, effect)| format!("{effect}\n")).collect()
 }
 
 /// The trace of a sheet in binary form, which may be a bad one.

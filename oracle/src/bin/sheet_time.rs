@@ -2,8 +2,8 @@
 //! traces them, each beside that of the oracle's program `sheet`: all as
 //! processes, on the same file.
 //!
-//! `sheet_time PROGRAM TRACER FOLDER`: the sheets are written to FOLDER. Without
-//! both programs there is nothing to measure, which is said and is no failure.
+//! `sheet_time PROGRAM TRACER FOLDER`: the sheets are written to FOLDER. A program
+//! that is not there is skipped, which is said and is no failure.
 
 use std::env;
 use std::fs::{self, File};
@@ -20,23 +20,26 @@ const SEED: u64 = 1;
 
 /// A program beside the oracle's command, with the best time of each so far.
 struct Pair {
+    which: Program,
     program: (Command, Duration),
     oracle: (Command, Duration),
 }
 
 fn main() -> ExitCode {
     let arguments: Vec<String> = env::args().skip(1).collect();
-    let [programs @ .., folder] = &arguments[..] else {
+    let [program, tracer, folder] = &arguments[..] else {
         return misused();
     };
-    let [program, tracer] = programs else {
-        return misused();
-    };
-    if let Some(missing) = programs.iter().find(|program| !Path::new(program).exists()) {
-        println!("time of a sheet: skipped, there is no {missing}: `make program` builds it");
+    let both = Program::BOTH.into_iter().zip([program, tracer].map(Path::new));
+    let (there, missing): (Vec<_>, Vec<_>) = both.partition(|(_, path)| path.exists());
+    for (_, path) in missing {
+        let path = path.display();
+        println!("time of a sheet: skipped, there is no {path}: `make program` builds it");
+    }
+    if there.is_empty() {
         return ExitCode::SUCCESS;
     }
-    match measure([program, tracer], Path::new(folder)) {
+    match measure(&there, Path::new(folder)) {
         Ok(()) => ExitCode::SUCCESS,
         Err(error) => {
             eprintln!("sheet_time: {error}");
@@ -50,14 +53,17 @@ fn misused() -> ExitCode {
     ExitCode::from(2)
 }
 
-fn measure(programs: [&str; 2], folder: &Path) -> Result<(), String> {
+fn measure(programs: &[(Program, &Path)], folder: &Path) -> Result<(), String> {
     println!("time of a sheet with 64 cells in milliseconds, as a process, the best of {TIMES}:");
     println!("steps  command  program  oracle  ratio");
     let full = full_sheet(SEED);
-    let [run, trace] = measure_on(STEPS_AT_MOST, full.clone(), programs, folder)?;
+    let times = measure_on(STEPS_AT_MOST, full.clone(), programs, folder)?;
     // What starting a process takes is in all of them.
     measure_on(0, without_steps(&full)?, programs, folder)?;
-    println!("{STEPS_AT_MOST} steps: the trace takes {:.2} times as long as the run", trace / run);
+    if let [run, trace] = times[..] {
+        let ratio = trace / run;
+        println!("{STEPS_AT_MOST} steps: the trace takes {ratio:.2} times as long as the run");
+    }
     Ok(())
 }
 
@@ -65,27 +71,28 @@ fn measure(programs: [&str; 2], folder: &Path) -> Result<(), String> {
 fn measure_on(
     steps: usize,
     sheet: Vec<u8>,
-    programs: [&str; 2],
+    programs: &[(Program, &Path)],
     folder: &Path,
-) -> Result<[f64; 2], String> {
+) -> Result<Vec<f64>, String> {
     let file = folder.join(format!("{steps}-steps.sheet"));
     fs::write(&file, sheet).map_err(|error| format!("{}: {error}", file.display()))?;
-    let pairs = best_times(programs, &file)?;
-    for (pair, command) in pairs.iter().zip(Program::BOTH) {
-        let (program, oracle) = (milliseconds(pair.program.1), milliseconds(pair.oracle.1));
+    let mut times = Vec::new();
+    for Pair { which, program, oracle } in best_times(programs, &file)? {
+        let (program, oracle) = (milliseconds(program.1), milliseconds(oracle.1));
         let ratio = program / oracle;
-        println!("{steps:5}  {command:7}  {program:7.2}  {oracle:6.2}  {ratio:5.2}");
+        println!("{steps:5}  {which:7}  {program:7.2}  {oracle:6.2}  {ratio:5.2}");
+        times.push(program);
     }
-    Ok(pairs.map(|pair| milliseconds(pair.program.1)))
+    Ok(times)
 }
 
 /// All take turns: what else the machine does is then the same for each.
-fn best_times([run, trace]: [&str; 2], file: &Path) -> Result<[Pair; 2], String> {
+fn best_times(programs: &[(Program, &Path)], file: &Path) -> Result<Vec<Pair>, String> {
     // It is built into the same folder as this program.
     let here = env::current_exe().map_err(|error| error.to_string())?;
     let oracle = here.with_file_name("sheet");
-    let mut pairs =
-        [Pair::new(Program::Run, run, &oracle), Pair::new(Program::Trace, trace, &oracle)];
+    let pairs = programs.iter().map(|(which, program)| Pair::new(*which, program, &oracle));
+    let mut pairs: Vec<Pair> = pairs.collect();
     for _ in 0..TIMES {
         pairs.iter_mut().try_for_each(|pair| pair.take_turn(file))?;
     }
@@ -93,10 +100,11 @@ fn best_times([run, trace]: [&str; 2], file: &Path) -> Result<[Pair; 2], String>
 }
 
 impl Pair {
-    fn new(which: Program, program: &str, oracle: &Path) -> Pair {
+    fn new(which: Program, program: &Path, oracle: &Path) -> Pair {
         let mut command = Command::new(oracle);
         command.arg(which.to_string());
-        Pair { program: (Command::new(program), Duration::MAX), oracle: (command, Duration::MAX) }
+        let program = (Command::new(program), Duration::MAX);
+        Pair { which, program, oracle: (command, Duration::MAX) }
     }
 
     /// Of each the best time counts: what else the machine does only adds.

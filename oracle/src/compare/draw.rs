@@ -12,15 +12,14 @@ use crate::random::Random;
 const ROUND: u64 = 80;
 
 const CHANGED_SHEETS: u64 = 300;
+const REFUSED_SHEETS: u64 = 50;
 
-/// A sheet with a commit, but for one in forty, in which all is refused. It
-/// follows from the seed and its own number alone.
+/// A sheet with a commit. It follows from the seed and its own number alone.
 pub fn random_sheet(seed: u64, number: u64) -> Case {
     let mut random = Random::of_part(seed, number);
     let sheet = match number % ROUND {
         0 => busy_sheet(&mut random),
         10 | 30 | 50 | 70 => wide_sheet(&mut random),
-        20 | 60 => refused_sheet(&mut random),
         _ => some_sheet(&mut random),
     };
     Case::new(format!("random sheet {number} of seed {seed}"), encoded(sheet))
@@ -50,6 +49,17 @@ pub fn changed_sheets(seed: u64) -> Vec<Case> {
     (0..CHANGED_SHEETS).map(case).collect()
 }
 
+/// Sheets with steps that are all refused, so that none has an effect.
+pub fn refused_sheets(seed: u64) -> Vec<Case> {
+    let case = |number| {
+        // Parts of the run below those of the changed sheets.
+        let mut random = Random::of_part(seed, u64::MAX - CHANGED_SHEETS - number);
+        let bytes = encoded(refused_sheet(&mut random));
+        Case::new(format!("refused sheet {number} of seed {seed}"), bytes)
+    };
+    (0..REFUSED_SHEETS).map(case).collect()
+}
+
 /// Every drawing gives a good sheet; an empty input would be told as bad and
 /// be missed by the least counts.
 fn encoded(sheet: Option<Sheet>) -> Vec<u8> {
@@ -76,15 +86,15 @@ fn wide_sheet(random: &mut Random) -> Option<Sheet> {
     sheet_with_a_commit(random, n, tasks, 400)
 }
 
-/// No begin is accepted, so that no step has an effect.
+/// What a fresh machine refuses leaves it fresh for the next step.
 fn refused_sheet(random: &mut Random) -> Option<Sheet> {
     let n = random.cell_count();
     let cells = random.values(n);
     let fresh = Machine::fresh(&cells)?;
     let steps = random.between(1, 100) as usize;
-    let calls = (0..steps).map(|_| random.junk_call());
-    let refused = calls.filter(|call| fresh.clone().step(*call).is_refused()).collect();
-    Sheet::new(cells, refused).ok()
+    let calls = std::iter::repeat_with(|| random.junk_call());
+    let refused = calls.filter(|call| fresh.clone().step(*call).is_refused());
+    Sheet::new(cells, refused.take(steps).collect()).ok()
 }
 
 /// Draws until some transaction commits, which few short sheets lack.

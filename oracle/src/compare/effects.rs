@@ -21,9 +21,9 @@ type Sort = (&'static str, u64, fn(&Made) -> bool);
 const SORTS: [Sort; 18] = [
     ("lines `at`", 20_000, |made| made.deed() == Some(&Deed::Begun)),
     ("lines `r`", 45_000, |made| matches!(made.deed(), Some(Deed::Read { .. }))),
-    ("lines `rl`", 3_000, |made| made.deed() == Some(&Deed::Reloaded)),
+    ("lines `rl`", 4_000, |made| made.deed() == Some(&Deed::Reloaded)),
     ("lines `co`", 10_000, |made| made.commit().is_some()),
-    ("lines `ab`", 7_000, |made| made.deed() == Some(&Deed::Ended)),
+    ("lines `ab`", 7_000, |made| made.deed() == Some(&Deed::Aborted)),
     ("lines of a transaction above 99", 6_500, |made| {
         made.effect.is_some_and(|effect| effect.transaction > 99)
     }),
@@ -39,8 +39,8 @@ const SORTS: [Sort; 18] = [
     }),
     ("`ab` for give up", 6_000, |made| made.is_accepted(Step::GiveUp)),
     ("`ab` for outcome 13", 700, |made| made.reply == Reply::Ended),
-    ("begins refused, no line", 230, |made| made.is_refused(Step::Begin)),
-    ("reloads refused, no line", 900, |made| made.is_refused(Step::Reload)),
+    ("begins refused, no line", 230, |made| made.is_refused_silently(Step::Begin)),
+    ("reloads refused, no line", 900, |made| made.is_refused_silently(Step::Reload)),
     ("reads from the write log, no line", 20_000, |made| made.is_logged_read(true)),
     ("reads from the read log, no line", 12_000, |made| made.is_logged_read(false)),
 ];
@@ -61,8 +61,8 @@ impl Made<'_> {
         self.commit().map(|(_, cells)| cells.len())
     }
 
-    fn is_refused(&self, step: Step) -> bool {
-        self.call.step == step.number() && self.reply.is_refused()
+    fn is_refused_silently(&self, step: Step) -> bool {
+        self.call.step == step.number() && self.reply.is_refused() && self.effect.is_none()
     }
 
     fn is_accepted(&self, step: Step) -> bool {

@@ -69,7 +69,7 @@ fn output(program: Program, case: &Case, given: &[u8]) -> Option<String> {
         if right != wrong {
             let (right, wrong) = (line_or_none(right), line_or_none(wrong));
             let step = step_at(program, case, line);
-            return Some(format!("line {line}{step}: wanted {right}, given {wrong}"));
+            return Some(format!("line {line}: wanted {right}{step}, given {wrong}"));
         }
     }
     None
@@ -84,7 +84,8 @@ fn quoted(bytes: &[u8]) -> String {
     format!("\"{}\"{more}", bytes[..bytes.len().min(SHOWN)].escape_ascii())
 }
 
-/// The step that a line of the output is about, in the text form.
+/// The step that a wanted line is about, in the text form. The given line may be
+/// about another one.
 fn step_at(program: Program, case: &Case, line: usize) -> String {
     let Ok(sheet) = Sheet::decode(&case.bytes) else {
         return " (a bad sheet)".to_string();
@@ -92,6 +93,6 @@ fn step_at(program: Program, case: &Case, line: usize) -> String {
     let texts = text::show(&sheet);
     let mut texts = texts.lines().skip(sheet.cells().len());
     let place = program.place_of(&sheet, line);
-    let step = place.and_then(|place| texts.nth(place - 1));
-    step.map_or(String::new(), |step| format!(" ({step})"))
+    let step = place.and_then(|place| Some((place, texts.nth(place - 1)?)));
+    step.map_or(String::new(), |(place, step)| format!(" of step {place} ({step})"))
 }

@@ -18,7 +18,7 @@ mod traced;
 
 pub use bad::bad_sheets;
 pub use case::Case;
-pub use draw::{changed_sheets, full_sheet, random_sheet};
+pub use draw::{changed_sheets, full_sheet, random_sheet, refused_sheets};
 pub use edges::{cut_sheets, edge_sheets, long_inputs, sheets_in_pieces};
 pub use failure::Failure;
 pub use process::Process;
@@ -57,7 +57,7 @@ pub type Run<'a> = dyn FnMut(Program, &Case) -> Result<Given, String> + 'a;
 pub struct Plan {
     /// Equal seeds draw equal sheets.
     pub seed: u64,
-    /// How many sheets.
+    /// How many sheets with a commit.
     pub sheets: u64,
 }
 
@@ -86,6 +86,7 @@ pub fn compare(
         ("inputs that are too long", long_inputs()),
         ("sheets that arrive in pieces", sheets_in_pieces()),
         ("sheets with a byte changed", changed_sheets(plan.seed)),
+        ("sheets whose steps are all refused", refused_sheets(plan.seed)),
     ];
     let mut tally = Tally::default();
     for (what, cases) in groups {

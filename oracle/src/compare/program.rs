@@ -26,11 +26,12 @@ impl Program {
         }
     }
 
-    /// The place of the step that a line of its output is about, both from 1.
+    /// The place of the step that a line of what it has to print is about, both
+    /// from 1.
     pub(super) fn place_of(self, sheet: &Sheet, line: usize) -> Option<usize> {
         match self {
             Program::Run => Some(line),
-            Program::Trace => trace::effects(sheet).get(line - 1).map(|(place, _)| *place),
+            Program::Trace => trace::effects(sheet)?.get(line - 1).map(|(place, _)| *place),
         }
     }
 }

@@ -34,7 +34,6 @@ pub struct Tally {
     obstacles: Obstacles,
     ignores: Ignores,
     effects: Effects,
-    without_an_effect: u64,
 }
 
 impl Tally {
@@ -51,22 +50,19 @@ impl Tally {
     /// For random sheets only: what was written by hand says nothing of them.
     pub(super) fn note_steps(&mut self, sheet: &Sheet) {
         let commits = self.commits();
-        let mut effects = 0;
         if let Some(machine) = Machine::fresh(sheet.cells()) {
             let (mut tracer, mut repairs) = (Tracer::new(machine), Repairs::default());
             for call in sheet.calls() {
-                effects += u64::from(self.note_step(&mut tracer, *call, &mut repairs));
+                self.note_step(&mut tracer, *call, &mut repairs);
             }
         }
         let committed = self.commits() > commits;
         let size = (sheet.cells().len(), sheet.calls().len());
         self.with_a_commit += u64::from(committed);
         self.full += u64::from(committed && size == (CELLS_AT_MOST, STEPS_AT_MOST));
-        self.without_an_effect += u64::from(effects == 0);
     }
 
-    /// Answers whether the step has an effect.
-    fn note_step(&mut self, tracer: &mut Tracer, call: Call, repairs: &mut Repairs) -> bool {
+    fn note_step(&mut self, tracer: &mut Tracer, call: Call, repairs: &mut Repairs) {
         let before = Ignores::is_about(call.step).then(|| tracer.machine().clone());
         let (reply, effect) = tracer.step(call);
         let machine = tracer.machine();
@@ -83,7 +79,6 @@ impl Tally {
             let marks = step == Step::Enter && reply.word() == 0 && reply != Reply::Done;
             self.marks += u64::from(marks);
         }
-        effect.is_some()
     }
 
     fn commits(&self) -> u64 {
@@ -97,9 +92,8 @@ impl Tally {
 
     fn counts(&self) -> Vec<Count> {
         let named = [
-            ("random sheets with a commit", self.with_a_commit, 1_950),
+            ("random sheets with a commit", self.with_a_commit, 2_000),
             ("of these with 64 cells and 4096 steps", self.full, 20),
-            ("random sheets without an effect", self.without_an_effect, 50),
             ("commits", self.commits(), 10_000),
             ("enters that mark", self.marks, 1_000),
             ("reloads", self.done[usize::from(Step::Reload.number())], 4_000),

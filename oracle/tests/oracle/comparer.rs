@@ -139,21 +139,39 @@ fn the_time_of_a_sheet() {
     let output = run_sheet_time(&run, &trace);
     assert_eq!(output.status.code(), Some(0));
     let lines = lines(&output.stdout);
-    let begins = |line: &String, words: &str| line.split_whitespace().take(2).eq(words.split(' '));
-    for (line, words) in lines[2..].iter().zip(["4096 run", "4096 trace", "0 run", "0 trace"]) {
-        assert!(begins(line, words), "{words}: {lines:?}");
-    }
+    measures(&lines[2..6], &["4096 run", "4096 trace", "0 run", "0 trace"]);
     assert!(lines[6].starts_with("4096 steps: the trace takes "), "{lines:?}");
     assert_eq!(lines.len(), 7, "{lines:?}");
 
     for [program, tracer] in [["/bin/cat", &trace], [&run, "/bin/cat"]] {
         assert_eq!(run_sheet_time(program, tracer).status.code(), Some(1));
     }
-    for [program, tracer] in [["no/such/program", &trace], [&run, "no/such/program"]] {
-        let missing = run_sheet_time(program, tracer);
-        assert_eq!(missing.status.code(), Some(0));
-        let said =
-            "time of a sheet: skipped, there is no no/such/program: `make program` builds it\n";
-        assert_eq!(missing.stdout, said.as_bytes());
+}
+
+#[test]
+fn the_time_of_a_sheet_without_a_program() {
+    let (run, trace) = (path("run"), path("trace"));
+    let missing = "no/such/program";
+    let said = "time of a sheet: skipped, there is no no/such/program: `make program` builds it";
+    for (programs, measured) in
+        [([missing, &trace], ["4096 trace", "0 trace"]), ([&run, missing], ["4096 run", "0 run"])]
+    {
+        let output = run_sheet_time(programs[0], programs[1]);
+        assert_eq!(output.status.code(), Some(0));
+        let lines = lines(&output.stdout);
+        assert_eq!(lines[0], said);
+        measures(&lines[3..], &measured);
     }
+    let output = run_sheet_time(missing, missing);
+    assert_eq!(output.status.code(), Some(0));
+    assert_eq!(lines(&output.stdout), [said, said]);
+}
+
+/// Each line begins with these two words.
+fn measures(lines: &[String], words: &[&str]) {
+    let begin: Vec<String> = lines
+        .iter()
+        .map(|line| line.split_whitespace().take(2).collect::<Vec<_>>().join(" "))
+        .collect();
+    assert_eq!(begin, words, "{lines:?}");
 }

@@ -2,7 +2,7 @@
 //! catches what is wrong.
 
 use oracle::compare::{bad_sheets, compare, cut_sheets, edge_sheets, long_inputs, random_sheet};
-use oracle::compare::{Case, Ended, Failure, Given, Plan, Program, Stopped, Tally};
+use oracle::compare::{refused_sheets, Case, Ended, Failure, Given, Plan, Program, Stopped, Tally};
 use oracle::{describe, lay_out_on_bytes, BadSheet, Sheet};
 
 use crate::fuzzing::{step, StepOnBytes, IGNORED, IN_THE_WAY, WRONG_STEPS};
@@ -262,13 +262,18 @@ fn failure_with(which: Program, line: &str, wrong: &str) -> Box<Failure> {
 fn a_failure_shows_the_program_the_first_line_that_differs_and_its_step() {
     let failure = failure_with(Program::Run, "16 0 1 00000001", "16 0 1 00000000");
     let report = "run of S (183 bytes)\n  \
-        line 16 (ask 1 0): wanted \"16 0 1 00000001\\n\", given \"16 0 1 00000000\\n\"";
+        line 16: wanted \"16 0 1 00000001\\n\" of step 16 (ask 1 0), given \"16 0 1 00000000\\n\"";
     assert_eq!(failure.to_string(), report);
     assert_eq!(failure.case.bytes, s_binary());
-    // The sixth step with an effect is the seventeenth.
+    // The sixth effect is that of step 17.
     let failure = failure_with(Program::Trace, "rl 1 1\n", "");
     let report = "trace of S (183 bytes)\n  \
-        line 6 (reload 1): wanted \"rl 1 1\\n\", given \"co 1 1 3 1\\n\"";
+        line 6: wanted \"rl 1 1\\n\" of step 17 (reload 1), given \"co 1 1 3 1\\n\"";
+    assert_eq!(failure.to_string(), report);
+    // One line too many: the wanted line is of a later step than the given one.
+    let failure = failure_with(Program::Trace, "r 1 1 1\n", "r 1 1 1\nr 1 1 1\n");
+    let report = "trace of S (183 bytes)\n  \
+        line 6: wanted \"rl 1 1\\n\" of step 17 (reload 1), given \"r 1 1 1\\n\"";
     assert_eq!(failure.to_string(), report);
     let failure = failure_with(Program::Trace, "co 1 1 3 1\n", "co 1 1 3 1\nco 1 1 3 1\n");
     let report = "trace of S (183 bytes)\n  \
@@ -319,4 +324,17 @@ fn a_random_sheet_follows_from_its_seed_and_number() {
     assert_ne!(bytes(1, 7), bytes(2, 7));
     assert_ne!(bytes(1, 7), bytes(1, 8));
     assert_eq!(bytes(1, 0).len(), 33_093);
+}
+
+#[test]
+fn sheets_whose_steps_are_all_refused_have_steps_and_no_effect() {
+    for seed in 1..=3 {
+        let cases = refused_sheets(seed);
+        assert_eq!(cases.len(), 50);
+        for Case { name, bytes, .. } in cases {
+            let sheet = Sheet::decode(&bytes).expect(&name);
+            assert!(!sheet.calls().is_empty(), "{name}");
+            assert_eq!(Program::Trace.wanted(&bytes), "", "{name}");
+        }
+    }
 }

@@ -47,7 +47,7 @@ fn the_effects_of_sheet_s_and_their_places() {
         effect(17, 1, 1, Deed::Reloaded),
         effect(20, 1, 1, Deed::Committed { stamp: 3, cells: vec![1] }),
     ];
-    assert_eq!(effects(&sheet), expected);
+    assert_eq!(effects(&sheet).as_deref(), Some(&expected[..]));
 }
 
 #[test]

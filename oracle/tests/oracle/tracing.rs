@@ -54,6 +54,16 @@ impl Seen<'_> {
         self.is(2, 0) && cells().contains(&self.call.cell.into())
     }
 
+    /// An accepted read of a cell that is in one of these logs.
+    pub fn is_read_in_logs(&self, area: &Peek, slot: u8) -> bool {
+        let cells = || [area.read_cells(slot), area.write_cells(slot)].concat();
+        self.is(2, 0) && cells().contains(&self.call.cell.into())
+    }
+
+    pub fn next_slot(&self) -> u8 {
+        1 + self.call.slot % 8
+    }
+
     pub fn stamp(&self) -> u64 {
         self.before.commit(self.call.slot)
     }
@@ -104,7 +114,7 @@ pub fn numbers(cells: Vec<usize>) -> Vec<u64> {
 pub fn effect(seen: &Seen) -> Told {
     match (seen.call.step, seen.code) {
         (1, 0) => Some(("at", Vec::new())),
-        (2, 0) if seen.is_from_the_write_log() || seen.is_from_the_read_log() => None,
+        (2, 0) if seen.is_read_in_logs(&seen.before, seen.call.slot) => None,
         (2, 0) => Some(("r", vec![seen.call.cell.into()])),
         (10, 0) => Some(("rl", Vec::new())),
         (12, 0) => Some(("co", [vec![seen.stamp()], seen.written()].concat())),

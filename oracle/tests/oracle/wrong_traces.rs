@@ -1,6 +1,6 @@
 //! Tracers that are wrong in one way.
 
-use oracle::compare::{edge_sheets, random_sheet, Case, Given, Program};
+use oracle::compare::{edge_sheets, random_sheet, refused_sheets, Case, Given, Program};
 
 use crate::comparing::{compared_one, prints};
 use crate::tracing::{effect, number, numbers, traced, Seen, Told};
@@ -12,9 +12,15 @@ type Number = fn(&Seen) -> u64;
 type Writer = fn(String) -> String;
 
 /// With a wrong look at one of the steps.
-const WRONG_EFFECTS: [(&str, Effect); 27] = [
+const WRONG_EFFECTS: [(&str, Effect); 29] = [
     ("reads from the read log shown", |seen| also(seen, seen.is_from_the_read_log(), "r")),
     ("reads from the write log shown", |seen| also(seen, seen.is_from_the_write_log(), "r")),
+    ("the next slot's log makes a read silent", |seen| {
+        but(seen, seen.is_read_in_logs(&seen.before, seen.next_slot()))
+    }),
+    ("the logs looked at after the read", |seen| {
+        but(seen, seen.is_read_in_logs(&seen.after, seen.call.slot))
+    }),
     ("refused reads shown", |seen| also(seen, seen.call.step == 2 && seen.code > 3, "r")),
     ("rereads shown", |seen| also(seen, seen.is(7, 0), "r")),
     ("refused begin shown", |seen| also(seen, seen.is(1, 4), "at")),
@@ -46,9 +52,11 @@ const WRONG_EFFECTS: [(&str, Effect); 27] = [
 ];
 
 /// With something else behind the number of a commit.
-const WRONG_COMMITS: [(&str, Commit); 13] = [
+const WRONG_COMMITS: [(&str, Commit); 14] = [
     ("the clock for the stamp", |seen| with(seen.after.clock(), seen.written())),
     ("the start for the stamp", |seen| with(seen.before.start(seen.call.slot), seen.written())),
+    // It is 0 for no cell, and still there for others.
+    ("the stamp after the finish", |seen| with(seen.after.commit(seen.call.slot), seen.written())),
     ("the stamp of enter after a reload", |seen| with(seen.entered(), seen.written())),
     ("the stamp in a byte", |seen| with(seen.stamp() % 256, seen.written())),
     ("no stamp", |seen| seen.written()),
@@ -57,7 +65,7 @@ const WRONG_COMMITS: [(&str, Commit); 13] = [
         with(seen.stamp(), with(seen.written().len() as u64, seen.written()))
     }),
     ("the cells of the next slot's write log", |seen| {
-        with(seen.stamp(), numbers(seen.before.write_cells(1 + seen.call.slot % 8)))
+        with(seen.stamp(), numbers(seen.before.write_cells(seen.next_slot())))
     }),
     ("the cells of slot 1's write log", |seen| {
         with(seen.stamp(), numbers(seen.before.write_cells(1)))
@@ -141,9 +149,9 @@ const WRONG_WRITERS: [(&str, Writer); 11] = [
     ("room for 10 bytes a step", |trace| trace.chars().take(40_960).collect()),
 ];
 
-/// These show where there are more transactions, stamps or lines than in a random
-/// sheet.
-const BEYOND_RANDOM_SHEETS: [&str; 5] = [
+/// These show where there are more transactions, stamps or lines than in the
+/// random sheets of the test below.
+const BEYOND_THESE_SHEETS: [&str; 5] = [
     "numbers in a byte",
     "numbers of three digits",
     "the stamp in a byte",
@@ -217,12 +225,13 @@ fn every_wrong_tracer_is_caught_at_the_edges() {
 
 #[test]
 fn random_sheets_catch_the_wrong_tracers_that_short_ones_show() {
-    let sheets: Vec<Case> = (1..200).map(|number| random_sheet(1, number)).collect();
+    let drawn = (1..200).map(|number| random_sheet(1, number));
+    let sheets: Vec<Case> = drawn.chain(refused_sheets(1)).collect();
     for (name, wrong) in wrong_tracers() {
         let is_wrong =
             |case: &Case| wrong(case).output != Program::Trace.wanted(&case.bytes).as_bytes();
         let found = sheets.iter().find(|case| is_wrong(case)).map(|case| &case.name);
         println!("{name}: {found:?}");
-        assert_eq!(found.is_none(), BEYOND_RANDOM_SHEETS.contains(&name), "{name}: {found:?}");
+        assert_eq!(found.is_none(), BEYOND_THESE_SHEETS.contains(&name), "{name}: {found:?}");
     }
 }
