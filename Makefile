@@ -92,7 +92,7 @@ guide: $(LIBRARY) $(WEAR)
 	python3 docs/img/phases.py | diff - docs/img/phases.svg
 	@echo "the guide's program printed what stands in the guide"
 
-# What stands in the guide is what the proved programs print: ```replies and ```trace of the sheet before them, ```trace NAME of an example.
+# What stands in the guide is what the proved programs print: ```replies, ```trace or both of the sheet before them, ```trace NAME of an example.
 guide-sheets: program second
 	rm -rf target/sheets/guide
 	mkdir -p target/sheets/guide
@@ -101,10 +101,11 @@ guide-sheets: program second
 		/^```(replies|trace)$$/ { file = to sheet "." substr($$1, 4); printf "" > file; next } \
 		/^```trace / { file = to $$2 ".trace"; printf "" > file; next } /^```$$/ { file = "" } file { print > file }' docs/GUIDE.md
 	set -e; for sheet in target/sheets/guide/[0-9]*.txt; do \
-		$(SECOND)/sheet assemble "$$sheet" | $(PROGRAM) | diff -u "$${sheet%.txt}.replies" -; \
+		test -e "$${sheet%.txt}.replies" -o -e "$${sheet%.txt}.trace" || { echo "$$sheet: neither replies nor a trace"; exit 1; }; \
 	done
-	set -e; for trace in target/sheets/guide/*.trace; do \
-		$(SECOND)/sheet assemble "$${trace%.trace}.txt" | $(TRACER) | diff -u "$$trace" -; \
+	set -e; for printed in target/sheets/guide/*.replies target/sheets/guide/*.trace; do \
+		case "$$printed" in *.replies) program=$(PROGRAM);; *) program=$(TRACER);; esac; \
+		$(SECOND)/sheet assemble "$${printed%.*}.txt" | $$program | diff -u "$$printed" -; \
 	done
 	@echo "the guide's sheets printed what stands in the guide, and so did their traces"
 
