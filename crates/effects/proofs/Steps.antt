@@ -1,7 +1,7 @@
 -- The steps of a sheet and the lines of their effects, one after the other.
 use mathlib.Core.List.{List, [], _∷_, _++_, append-assoc, append-nil, map-map}
 use mathlib.Core.Path.{_≡_, refl, _∙_}
-use Prim.Native.Nat.{ℕ, _+_, _-_, _/_, _^_}
+use Prim.Native.Nat.{ℕ, _+_, _/_, _^_}
 use native.Mathlib.Numerals.{add-one}
 use lib.ListN.{getD}
 use Rattle.slot.specs.Logs.{writeLog}
@@ -18,7 +18,9 @@ use Rattle.telling.specs.declared.Before.{Before}
 use Rattle.telling.specs.declared.Numbers.{Numbers}
 use Rattle.telling.specs.declared.Shown.{Shown}
 use Rattle.telling.specs.declared.Shown.the-variants.{Begun, Read, Reloaded, Committed, Aborted, Nothing}
-use Rattle.telling.specs.Parts.{lookedAt, numbersAfter, effectParts, stepParts}
+use Rattle.telling.specs.Looking.{lookedAt}
+use Rattle.telling.specs.Numbering.{numbersAfter}
+use Rattle.telling.specs.Parts.{effectParts, stepParts}
 use Rattle.effects.specs.declared.Traced.{Traced}
 use Rattle.effects.specs.Effects.{Effect}
 use Rattle.effects.specs.Steps.{effectBy, partsOf, effectOn, numbersAt, effectsUpTo, StepTraced}

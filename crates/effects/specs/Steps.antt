@@ -14,7 +14,9 @@ use Rattle.line.specs.Gather.{gathered, addedParts, Leaves}
 use Rattle.telling.specs.declared.Numbers.{Numbers}
 use Rattle.telling.specs.declared.Shown.{Shown}
 use Rattle.telling.specs.declared.Shown.the-variants.{Begun, Read, Reloaded, Committed, Aborted, Nothing}
-use Rattle.telling.specs.Parts.{lookedAt, noNumbers, numbersAfter, shownBy}
+use Rattle.telling.specs.Looking.{lookedAt}
+use Rattle.telling.specs.Numbering.{noNumbers, numbersAfter}
+use Rattle.telling.specs.Showing.{shownBy}
 use Rattle.stage.specs.Calls.{callAt, stepCount, areaAfter, endArea}
 use Rattle.effects.specs.declared.Traced.{Traced}
 use Rattle.effects.specs.Effects.{Effect, begun, readShared, reloaded, committed, aborted, writtenCells}

@@ -18,7 +18,7 @@ use Rattle.slot.specs.declared.WriteEntry.{WriteEntry}
 use Rattle.slot.specs.declared.WriteFound.{WriteFound}
 use Rattle.slot.proofs.Search.{read-lacks, read-has, write-lacks, write-has}
 use Rattle.packed.specs.Places.{slotIn, withWritesAt, readFoundAt, writeFoundAt}
-use Rattle.telling.specs.Parts.{inEither, slotStart, lookedAt}
+use Rattle.telling.specs.Looking.{inEither, slotStart, lookedAt}
 
 -- what two searches find is whether one of the logs has the cell
 module _ (writes : List WriteEntry) (reads : List ReadEntry) (c : ℕ) where

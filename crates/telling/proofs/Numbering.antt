@@ -9,7 +9,7 @@ use Rattle.slot.specs.Logic.{_and_}
 use Rattle.slot.proofs.Logic.{and-false}
 use Rattle.apart.proofs.Tests.{fails}
 use Rattle.telling.specs.declared.Numbers.{Numbers}
-use Rattle.telling.specs.Parts.{places, numbersAfter}
+use Rattle.telling.specs.Numbering.{places, numbersAfter}
 
 module _ (v : Numbers) (step slot code : ℕ) where
   -- the four tests

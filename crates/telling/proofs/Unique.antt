@@ -7,7 +7,9 @@ use Rattle.wire.proofs.Unique.{unique}
 use Rattle.line.specs.Gather.{gathered, addedParts, Leaves}
 use Rattle.telling.specs.declared.Before.{Before}
 use Rattle.telling.specs.declared.Numbers.{Numbers}
-use Rattle.telling.specs.Parts.{lookedAt, noNumbers, numbersAfter, stepParts}
+use Rattle.telling.specs.Looking.{lookedAt}
+use Rattle.telling.specs.Numbering.{noNumbers, numbersAfter}
+use Rattle.telling.specs.Parts.{stepParts}
 
 pub none-unique : (r₁ r₂ : Numbers) → r₁ ≡ noNumbers → r₂ ≡ noNumbers → r₁ ≡ r₂
 none-unique r₁ r₂ = unique

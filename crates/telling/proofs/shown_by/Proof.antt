@@ -1,7 +1,7 @@
 -- `shown_by` meets its contract, case by case.
 use borrow.Author.Needs.{needs}
 use borrow.Author.Tests.{ne-eqb}
-use Rattle.telling.specs.Parts.{shownBy}
+use Rattle.telling.specs.Showing.{shownBy}
 use Rattle.telling.proofs.shown_by.Statement.{statement}
 use Rattle.telling.proofs.shown_by.Tie as tie
 
