@@ -1,21 +1,17 @@
 -- The numbers of a trace's lines, event by event.
-use mathlib.Core.Bool.{Bool, true, false, cond}
+use mathlib.Core.Bool.{true, false, cond}
 use mathlib.Core.List.{List, [], _∷_, _++_}
 use mathlib.Core.Path.{_≡_, refl, sym, ap, _∙_}
 use Prim.Native.Nat.{ℕ, suc}
 use lib.Dec.{eqb}
 use borrow.Author.Tests.{eq-eqb}
 use Rattle.slot.specs.Logic.{_and_}
+use Rattle.logcheck.proofs.Chains.{either}
 use Rattle.history.specs.History.{Event, accepts, ownSlot, fromShared}
 use Rattle.history.proofs.Keeps.Lists.{cond-elim}
 use Rattle.rules.specs.State.{writesOf, commitOf}
 use Rattle.effects.specs.Effects.{Effect, readShared, reloaded, committed, aborted, writtenCells, aborts, begins, numberOf, effectOf, effectsAfter}
 use Rattle.effects.specs.Numbered.{given, Numbered, NumbersRight}
-
--- by a test
-cond-elim-bool : {P : Type 0} (b : Bool) → (b ≡ true → P) → (b ≡ false → P) → P
-cond-elim-bool true f g = f refl
-cond-elim-bool false f g = g refl
 
 -- one event, after a past
 module _ (e : Event) (past : List Event) where
@@ -61,7 +57,7 @@ numbered-after [] past count last so-far known = tt
 numbered-after (e ∷ events) past count last so-far known =
     let slot = e .call .slot in
     let number = numberOf (e ∷ past) slot in
-    cond-elim-bool (accepts 1 e)
+    either (accepts 1 e)
     (λ p.
     let one : number ≡ suc count = begins-number e past p slot ∙ rw (eq-eqb slot slot refl, so-far) in
     begin-first e past count last _ number p one

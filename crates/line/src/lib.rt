@@ -1,4 +1,4 @@
-// The lines of a run as bytes, put into a lent buffer. A line that does not fit leaves the buffer untouched, and the answer says so.
+// Lines and fields as bytes, put into a lent buffer. A part that does not fit leaves the buffer untouched, and the answer says so.
 ghost use mathlib.Core.Bool.{cond, false};
 ghost use mathlib.Core.List.{_++_, _∷_, []};
 ghost use mathlib.Core.Path.{_≡_};

@@ -78,5 +78,3 @@ printed-short a l steps bytes cells =
       cat-short 46 (countIn e) (lineInArea e) (λ c h. area-short e bytes c (omega arith)),
       clock-short (clockIn controller e),
     ))
-
--- a sheet that is too long is bad

@@ -1,4 +1,4 @@
--- Each public function's contract leaves one answer, and one content of the area and of the buffer.
+-- The public function's contract leaves one answer, and one content of the area and of the buffer.
 use mathlib.Core.List.{List}
 use mathlib.Core.Path.{_≡_}
 use Prim.Native.Nat.{ℕ}

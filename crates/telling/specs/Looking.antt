@@ -15,7 +15,6 @@ use Rattle.slot.specs.declared.WriteFound.the-variants as write
 use Rattle.slot.specs.declared.SlotRecord.{SlotRecord}
 use Rattle.rules.specs.Model.{controller, slotOffset}
 use Rattle.rules.specs.Layout.{countIn}
-use Rattle.telling.specs.declared.Shown.the-variants.{Nothing}
 use Rattle.telling.specs.declared.Before.{Before}
 
 -- a search has found an entry
@@ -32,7 +31,7 @@ beforeOf v cell = record { logged = writesCell (writeLog v) cell or readsCell (r
 abbrev pub slotStart : List ℕ → ℕ → ℕ
 slotStart a slot = slotOffset controller (countIn a) (pred slot)
 
--- an area that is too short for the slot shows nothing
+-- where the area ends before the slot does, there is nothing to see
 unfoldable pub lookedAt : List ℕ → ℕ → ℕ → Before
 lookedAt a slot cell =
     cond (leb (slotStart a slot + slotSize 8) (length a))

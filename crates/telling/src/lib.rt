@@ -116,7 +116,7 @@ fn in_either(written: WriteFound, read: ReadFound) -> bool
     false
 }
 
-// Looks at a slot, and at whether a log of it has the cell. An area that is too short for the slot, which no run has, shows nothing.
+// Looks at a slot, and at whether a log of it has the cell. Where the area ends before the slot does, as for a number that no slot has, there is nothing to see.
 pub fn look(area: &[u8], slot: u8, cell: u8) -> Before
     ensures { λ r. ⌜ r ≡ lookedAt (now (area .entry)) slot cell ⌝ }
 {
