@@ -28,7 +28,7 @@ PROGRAM := target/bin/run
 TRACER := target/bin/trace
 SECOND := oracle/target/release
 # the crates that ask nothing of a caller
-BOUNDARIES := value call line apart stage sheet run telling effects trace crocktendril wear
+BOUNDARIES := value call line apart stage sheet run tally telling effects trace crocktendril wear
 # the blocks of the guide that are marked so, one behind the other
 blocks = awk '/^```$(1)$$/ { on = 1; next } /^```$$/ { on = 0 } on' docs/GUIDE.md
 

@@ -22,11 +22,11 @@ use Rattle.history.specs.AreaHistory.{areaHistory}
 use Rattle.history.specs.Keeps.{bytesAfter}
 use Rattle.stage.specs.Calls.{callAt, areaAfter}
 use Rattle.stage.proofs.First.{Kept}
-use Rattle.telling.specs.declared.Numbers.{Numbers}
+use Rattle.tally.specs.declared.Numbers.{Numbers}
 use Rattle.effects.specs.Effects.{begins, numberOf, effectOf, effectsAfter, effects}
-use Rattle.telling.specs.Numbering.{noNumbers}
+use Rattle.tally.specs.Numbering.{noNumbers}
 use Rattle.effects.specs.Steps.{codeOn, numbersOn, numbersAt, effectsUpTo}
-use Rattle.telling.proofs.Numbering.{one-more, no-begin, refused-begin}
+use Rattle.tally.proofs.Numbering.{one-more, no-begin, refused-begin}
 use Rattle.effects.proofs.Short.{begins-next}
 use Rattle.effects.proofs.OneStep.{eventOn, inside, effect-right}
 

@@ -28,10 +28,10 @@ use Rattle.history.proofs.Keeps.OnBytes.{stepped, answered-reply}
 use Rattle.area.proofs.Good.{good-of}
 use Rattle.area.proofs.SlotRead.{slot-of}
 use Rattle.stage.proofs.First.{Kept}
-use Rattle.telling.specs.declared.Numbers.{Numbers}
+use Rattle.tally.specs.declared.Numbers.{Numbers}
 use Rattle.effects.specs.Effects.{Effect, begun, readShared, reloaded, committed, aborted, writtenCells, effectOf}
 use Rattle.telling.specs.Looking.{slotStart, beforeOf, lookedAt}
-use Rattle.telling.specs.Showing.{readShown, shownBy}
+use Rattle.tally.specs.Showing.{readShown, shownBy}
 use Rattle.effects.specs.Steps.{effectBy, codeOn, effectOn}
 
 -- the event of a call on an area

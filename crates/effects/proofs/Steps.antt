@@ -15,11 +15,11 @@ use Rattle.line.specs.Gather.{gathered, addedParts, Leaves}
 use Rattle.line.proofs.Gather.{leaves-both}
 use Rattle.stage.specs.Calls.{callOf, callAt, areaAfter}
 use Rattle.telling.specs.declared.Before.{Before}
-use Rattle.telling.specs.declared.Numbers.{Numbers}
-use Rattle.telling.specs.declared.Shown.{Shown}
-use Rattle.telling.specs.declared.Shown.the-variants.{Begun, Read, Reloaded, Committed, Aborted, Nothing}
+use Rattle.tally.specs.declared.Numbers.{Numbers}
+use Rattle.tally.specs.declared.Shown.{Shown}
+use Rattle.tally.specs.declared.Shown.the-variants.{Begun, Read, Reloaded, Committed, Aborted, Nothing}
 use Rattle.telling.specs.Looking.{lookedAt}
-use Rattle.telling.specs.Numbering.{numbersAfter}
+use Rattle.tally.specs.Numbering.{numbersAfter}
 use Rattle.telling.specs.Parts.{effectParts, stepParts}
 use Rattle.effects.specs.declared.Traced.{Traced}
 use Rattle.effects.specs.Effects.{Effect}

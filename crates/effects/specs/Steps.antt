@@ -11,12 +11,12 @@ use Rattle.slot.specs.Logs.{writeLog}
 use Rattle.slot.specs.declared.SlotRecord.{SlotRecord}
 use Rattle.line.specs.Line.{newline, field}
 use Rattle.line.specs.Gather.{gathered, addedParts, Leaves}
-use Rattle.telling.specs.declared.Numbers.{Numbers}
-use Rattle.telling.specs.declared.Shown.{Shown}
-use Rattle.telling.specs.declared.Shown.the-variants.{Begun, Read, Reloaded, Committed, Aborted, Nothing}
+use Rattle.tally.specs.declared.Numbers.{Numbers}
+use Rattle.tally.specs.declared.Shown.{Shown}
+use Rattle.tally.specs.declared.Shown.the-variants.{Begun, Read, Reloaded, Committed, Aborted, Nothing}
 use Rattle.telling.specs.Looking.{lookedAt}
-use Rattle.telling.specs.Numbering.{noNumbers, numbersAfter}
-use Rattle.telling.specs.Showing.{shownBy}
+use Rattle.tally.specs.Numbering.{noNumbers, numbersAfter}
+use Rattle.tally.specs.Showing.{shownBy}
 use Rattle.stage.specs.Calls.{callAt, stepCount, areaAfter, endArea}
 use Rattle.effects.specs.declared.Traced.{Traced}
 use Rattle.effects.specs.Effects.{Effect, begun, readShared, reloaded, committed, aborted, writtenCells}

@@ -4,7 +4,7 @@ ghost use Rattle.effects.specs.Steps.{StepTraced, StepsTraced};
 ghost use Rattle.effects.specs.Traced.{SheetTraced};
 use stage::Ran;
 use stage::Stage;
-use telling::Numbers;
+use tally::Numbers;
 
 // The numbers after a step, and where the lines end.
 pub struct Traced {

@@ -12,10 +12,10 @@ use Rattle.slot.specs.Layout.{noWrite}
 use Rattle.slot.specs.declared.WriteEntry.{WriteEntry}
 use Rattle.slot.specs.declared.SlotRecord.{SlotRecord}
 use Rattle.line.specs.Line.{field}
-use Rattle.telling.specs.declared.Shown.{Shown}
-use Rattle.telling.specs.declared.Shown.the-variants.{Begun, Read, Reloaded, Committed, Aborted, Nothing}
+use Rattle.tally.specs.declared.Shown.{Shown}
+use Rattle.tally.specs.declared.Shown.the-variants.{Begun, Read, Reloaded, Committed, Aborted, Nothing}
 use Rattle.telling.specs.Parts.{restParts, lineParts, effectParts}
-use Rattle.telling.proofs.Shown.{the-type}
+use Rattle.tally.proofs.Shown.{the-type}
 
 -- the fields of a log's cells
 abbrev pub fieldsOf : List WriteEntry → List (List ℕ)

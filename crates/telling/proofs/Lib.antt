@@ -1,4 +1,3 @@
-pub mod Numbering
 pub mod Fields
 pub mod Looking
 pub mod Unique

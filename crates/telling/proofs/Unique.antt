@@ -2,23 +2,11 @@
 use mathlib.Core.List.{List}
 use mathlib.Core.Path.{_≡_}
 use Prim.Native.Nat.{ℕ}
-use lib.ListN.{getD}
 use Rattle.wire.proofs.Unique.{unique}
 use Rattle.line.specs.Gather.{gathered, addedParts, Leaves}
 use Rattle.telling.specs.declared.Before.{Before}
-use Rattle.telling.specs.declared.Numbers.{Numbers}
 use Rattle.telling.specs.Looking.{lookedAt}
-use Rattle.telling.specs.Numbering.{noNumbers, numbersAfter}
 use Rattle.telling.specs.Parts.{stepParts}
-
-pub none-unique : (r₁ r₂ : Numbers) → r₁ ≡ noNumbers → r₂ ≡ noNumbers → r₁ ≡ r₂
-none-unique r₁ r₂ = unique
-
-pub of-unique : (v : Numbers) (slot r₁ r₂ : ℕ) → r₁ ≡ getD (v .last) slot 0 → r₂ ≡ getD (v .last) slot 0 → r₁ ≡ r₂
-of-unique v slot r₁ r₂ = unique
-
-pub after-unique : (v : Numbers) (step slot code : ℕ) (r₁ r₂ : Numbers) → r₁ ≡ numbersAfter v step slot code → r₂ ≡ numbersAfter v step slot code → r₁ ≡ r₂
-after-unique v step slot code r₁ r₂ = unique
 
 pub look-unique : (a : List ℕ) (slot cell : ℕ) (r₁ r₂ : Before) → r₁ ≡ lookedAt a slot cell → r₂ ≡ lookedAt a slot cell → r₁ ≡ r₂
 look-unique a slot cell r₁ r₂ = unique

@@ -5,10 +5,10 @@ use Rattle.slot.specs.Logs.{writeLog}
 use Rattle.slot.specs.declared.SlotRecord.{SlotRecord}
 use Rattle.slot.specs.declared.WriteEntry.{WriteEntry}
 use Rattle.line.specs.Line.{newline, field}
-use Rattle.telling.specs.declared.Shown.{Shown}
-use Rattle.telling.specs.declared.Shown.the-variants.{Begun, Read, Reloaded, Committed, Aborted, Nothing}
+use Rattle.tally.specs.declared.Shown.{Shown}
+use Rattle.tally.specs.declared.Shown.the-variants.{Begun, Read, Reloaded, Committed, Aborted, Nothing}
 use Rattle.telling.specs.declared.Before.{Before}
-use Rattle.telling.specs.Showing.{shownBy}
+use Rattle.tally.specs.Showing.{shownBy}
 
 -- the parts of a step's line: the word; what follows the transaction's number, and of this the cells
 abbrev pub wordParts : Shown → List (List ℕ)

@@ -1,9 +1,9 @@
 -- `after` meets its contract: the ways out are no begin, a refused one, no such slot, no number left, and one more transaction.
 use native.Mathlib.Omega.{arith}
-use Rattle.telling.proofs.Numbering.{no-begin, refused-begin, no-place, none-left, one-more}
+use Rattle.tally.proofs.Numbering.{no-begin, refused-begin, no-place, none-left, one-more}
 use borrow.Author.Needs.{needs}
-use Rattle.telling.proofs.Numbers.after.Statement.{statement}
-use Rattle.telling.proofs.Numbers.after.Tie as tie
+use Rattle.tally.proofs.Numbers.after.Statement.{statement}
+use Rattle.tally.proofs.Numbers.after.Tie as tie
 
 returns : tie.Need-returns
 returns c = search no-begin

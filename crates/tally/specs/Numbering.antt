@@ -4,7 +4,7 @@ use Prim.Native.Nat.{ℕ, _+_, _-_, _^_}
 use lib.Dec.{eqb, ltb}
 use lib.ListN.{set, replicate}
 use Rattle.slot.specs.Logic.{_and_}
-use Rattle.telling.specs.declared.Numbers.{Numbers}
+use Rattle.tally.specs.declared.Numbers.{Numbers}
 
 -- a place for each slot, at its own number; place 0 is not used
 abbrev pub places : ℕ

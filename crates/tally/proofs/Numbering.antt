@@ -7,9 +7,8 @@ use lib.Dec.{eqb, ltb}
 use lib.ListN.{set}
 use Rattle.slot.specs.Logic.{_and_}
 use Rattle.slot.proofs.Logic.{and-false}
-use Rattle.apart.proofs.Tests.{fails}
-use Rattle.telling.specs.declared.Numbers.{Numbers}
-use Rattle.telling.specs.Numbering.{places, numbersAfter}
+use Rattle.tally.specs.declared.Numbers.{Numbers}
+use Rattle.tally.specs.Numbering.{places, numbersAfter}
 
 module _ (v : Numbers) (step slot code : ℕ) where
   -- the four tests
@@ -22,8 +21,8 @@ module _ (v : Numbers) (step slot code : ℕ) where
 
   -- one test that fails is enough
   pub no-begin : (step ≡ 1 → ⊥) → v ≡ numbersAfter v step slot code
-  unfolding counts
-  no-begin n = same (fails _ _ (ne-eqb step 1 n))
+  unfolding counts _and_
+  no-begin n = same (rw (ne-eqb step 1 n))
 
   pub refused-begin : (code ≡ 0 → ⊥) → v ≡ numbersAfter v step slot code
   unfolding counts _and_

@@ -2,8 +2,8 @@
 use mathlib.Core.Bool.{Bool, not, cond}
 use Prim.Native.Nat.{ℕ}
 use lib.Dec.{eqb}
-use Rattle.telling.specs.declared.Shown.{Shown}
-use Rattle.telling.specs.declared.Shown.the-variants.{Begun, Read, Reloaded, Committed, Aborted, Nothing}
+use Rattle.tally.specs.declared.Shown.{Shown}
+use Rattle.tally.specs.declared.Shown.the-variants.{Begun, Read, Reloaded, Committed, Aborted, Nothing}
 
 -- an accepted read: nothing if it was answered from a log
 abbrev pub readShown : Bool → Shown

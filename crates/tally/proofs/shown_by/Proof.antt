@@ -1,9 +1,9 @@
 -- `shown_by` meets its contract, case by case.
 use borrow.Author.Needs.{needs}
 use borrow.Author.Tests.{ne-eqb}
-use Rattle.telling.specs.Showing.{shownBy}
-use Rattle.telling.proofs.shown_by.Statement.{statement}
-use Rattle.telling.proofs.shown_by.Tie as tie
+use Rattle.tally.specs.Showing.{shownBy}
+use Rattle.tally.proofs.shown_by.Statement.{statement}
+use Rattle.tally.proofs.shown_by.Tie as tie
 
 returns : tie.Need-returns
 unfolding shownBy

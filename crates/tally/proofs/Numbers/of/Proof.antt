@@ -3,8 +3,8 @@ use mathlib.Core.Path.{_≡_, sym}
 use native.Mathlib.Omega.{arith}
 use lib.ListN.{length, List·getD-eq-default, length-map}
 use borrow.Author.Needs.{needs}
-use Rattle.telling.proofs.Numbers.of.Statement.{statement}
-use Rattle.telling.proofs.Numbers.of.Tie as tie
+use Rattle.tally.proofs.Numbers.of.Statement.{statement}
+use Rattle.tally.proofs.Numbers.of.Tie as tie
 
 mul-result : tie.Need-mul-result
 mul-result c = search needs
