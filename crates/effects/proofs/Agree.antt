@@ -1,6 +1,6 @@
 -- The `co` and `r` lines of a trace, event by event.
 use mathlib.Core.Bool.{Bool, true, false, cond}
-use mathlib.Core.List.{List, [], _∷_, _++_, map, map-append, append-assoc, flatMap}
+use mathlib.Core.List.{List, [], _∷_, _++_, map, map-append, flatMap}
 use mathlib.Core.Path.{_≡_, refl, sym, ap₂, _∙_}
 use Prim.Native.Nat.{ℕ}
 use native.Mathlib.Omega.{arith}
@@ -10,6 +10,7 @@ use Rattle.rules.specs.State.{writesOf, commitOf}
 use Rattle.history.specs.History.{Event, ownSlot, accepts, fromShared, committedBy, commits, SharedRead, readBy, sharedReads}
 use Rattle.effects.specs.Effects.{Effect, begun, readShared, reloaded, committed, aborted, writtenCells, aborts, numberOf, effectOf, effectsAfter}
 use Rattle.apart.proofs.Tests.{fails}
+use Rattle.effects.proofs.Flat.{both-flat}
 use Rattle.effects.specs.Agree.{commitShown, commitsShown, shownOf, cellShown, cellsShown, Agrees}
 
 -- the cell of a read
@@ -66,12 +67,6 @@ module _ (number : ℕ) (e : Event) where
   here-reads =
       read-shown (accepts 1 e) (fromShared e) (accepts 10 e) (accepts 12 e) (aborts e) (λ p. one-step 2 1 (λ q. omega arith) (and-left _ _ p))
 
--- what effects show, and what more of them do
-shown-both : {A : Type 0} (shown : Effect → List A) (l m : List Effect) → flatMap shown (l ++ m) ≡ flatMap shown l ++ flatMap shown m
-unfolding flatMap
-shown-both shown [] m = refl
-shown-both shown (x ∷ l) m = rw (shown-both shown l m) (sym (append-assoc (shown x) (flatMap shown l) (flatMap shown m)))
-
 -- All events, after any past: what is gathered of the events one by one is what their effects show
 module _ {A : Type 0} (shown : Effect → List A) (here : Event → List A) (gather : List Event → List A) (none : gather [] ≡ [])
     (more : (e : Event) (events : List Event) → gather (e ∷ events) ≡ here e ++ gather events) (one : (number : ℕ) (e : Event) → flatMap shown (effectOf number e) ≡ here e) where
@@ -80,7 +75,7 @@ module _ {A : Type 0} (shown : Effect → List A) (here : Event → List A) (gat
   all-agree past [] = sym none
   all-agree past (e ∷ events) =
       let number = numberOf (e ∷ past) (e .call .slot) in
-      shown-both shown (effectOf number e) (effectsAfter (e ∷ past) events)
+      both-flat shown (effectOf number e) (effectsAfter (e ∷ past) events)
       ∙ ap₂ _++_ (one number e) (all-agree (e ∷ past) events)
       ∙ sym (more e events)
 

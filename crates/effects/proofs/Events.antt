@@ -20,6 +20,7 @@ use Rattle.rules.specs.Area.{stepOnBytes}
 use Rattle.history.specs.History.{Event, accepts}
 use Rattle.history.specs.AreaHistory.{areaHistory}
 use Rattle.history.specs.Keeps.{bytesAfter}
+use Rattle.history.proofs.Histories.{bytes-append}
 use Rattle.stage.specs.Calls.{callAt, areaAfter}
 use Rattle.stage.proofs.First.{Kept}
 use Rattle.tally.specs.declared.Numbers.{Numbers}
@@ -48,13 +49,8 @@ effects-next past (d ∷ events) e =
     ap (λ (l : _). effectOf (numberOf (d ∷ past) (d .call .slot)) d ++ l) (effects-next (d ∷ past) events e)
     ∙ sym (append-assoc (effectOf (numberOf (d ∷ past) (d .call .slot)) d) _ _)
 
--- the history and the area of one call more
+-- the history of one call more
 module _ (M : Model) where
-  bytes-next : (a : List ℕ) (calls : List Call) (c : Call) → bytesAfter M a (calls ++ (c ∷ [])) ≡ stepOnBytes M (bytesAfter M a calls) c .bytes
-  unfolding bytesAfter
-  bytes-next a [] c = refl
-  bytes-next a (d ∷ calls) c = bytes-next (stepOnBytes M a d .bytes) calls c
-
   history-next : (a : List ℕ) (calls : List Call) (c : Call)
       → areaHistory M a (calls ++ (c ∷ []))
       ≡ areaHistory M a calls ++ (record { before = stateOf M (bytesAfter M a calls); call = c; reply = stepOnBytes M (bytesAfter M a calls) c .reply } ∷ [])
@@ -64,10 +60,10 @@ module _ (M : Model) where
       ap (λ (l : List Event). record { before = stateOf M a; call = d; reply = stepOnBytes M a d .reply } ∷ l) (history-next (stepOnBytes M a d .bytes) calls c)
 
 -- the numbers that are kept are those of what has happened
-pub record Counted (past : List Event) (v : Numbers) : Type 0 where
-  pub begun : v .begun ≡ begins past
-  pub size : length (v .last) ≡ 9
-  pub last : (slot : ℕ) → slot < 9 → getD (v .last) slot 0 ≡ numberOf past slot
+record Counted (past : List Event) (v : Numbers) : Type 0 where
+  begun : v .begun ≡ begins past
+  size : length (v .last) ≡ 9
+  last : (slot : ℕ) → slot < 9 → getD (v .last) slot 0 ≡ numberOf past slot
 
 counted-none : Counted [] noNumbers
 unfolding begins numberOf
@@ -132,7 +128,7 @@ module _ (a l : List ℕ) where
   bytes-at : (k : ℕ) → bytesAfter controller a (tab k (callAt l)) ≡ areaAfter a l k
   unfolding tab cat areaAfter bytesAfter
   bytes-at zero = refl
-  bytes-at (suc k) = bytes-next controller a (tab k (callAt l)) (callAt l k) ∙ ap (λ (x : List ℕ). stepOnBytes controller x (callAt l k) .bytes) (bytes-at k)
+  bytes-at (suc k) = bytes-append controller a (tab k (callAt l)) (callAt l k ∷ []) ∙ ap (λ (x : List ℕ). stepOnBytes controller x (callAt l k) .bytes) (bytes-at k)
 
   events-next : (k : ℕ) → eventsUpTo (suc k) ≡ eventsUpTo k ++ (eventAt k ∷ [])
   unfolding tab cat

@@ -1,3 +1,4 @@
+pub mod Flat
 pub mod Steps
 pub mod OneStep
 pub mod Short

@@ -1,5 +1,5 @@
 -- Sheet S gives the seven lines of request #104: its run on states, by computation.
-use mathlib.Core.List.{flatten}
+use mathlib.Core.List.{flatMap}
 use mathlib.Core.Path.{refl, _∙_}
 use Rattle.wire.specs.Field.{be}
 use Rattle.wire.specs.Table.{cat, tab}
@@ -18,5 +18,5 @@ use Rattle.effects.specs.SheetS.{SheetS}
 use Rattle.effects.proofs.States.{on-states}
 
 pub sheet-s : SheetS
-unfolding computed be cat tab all cellCountRight describedCell describedCells digit digits flatten wholeSheet describedRight stepsRight goodSheet callOf history begins numberOf effectOf effectsAfter effectLine trace
+unfolding computed be cat tab all cellCountRight describedCell describedCells digit digits flatMap wholeSheet describedRight stepsRight goodSheet callOf history begins numberOf effectOf effectsAfter effectLine trace
 sheet-s = on-states sheetS refl ∙ refl

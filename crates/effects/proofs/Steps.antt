@@ -1,5 +1,5 @@
 -- The steps of a sheet and the lines of their effects, one after the other.
-use mathlib.Core.List.{List, [], _∷_, _++_, append-assoc, append-nil, map-map}
+use mathlib.Core.List.{List, append-nil, map-map, flatMap}
 use mathlib.Core.Path.{_≡_, refl, _∙_}
 use Prim.Native.Nat.{ℕ, _+_, _/_, _^_}
 use native.Mathlib.Numerals.{add-one}
@@ -22,11 +22,12 @@ use Rattle.telling.specs.Looking.{lookedAt}
 use Rattle.tally.specs.Numbering.{numbersAfter}
 use Rattle.telling.specs.Parts.{effectParts, stepParts}
 use Rattle.effects.specs.declared.Traced.{Traced}
-use Rattle.effects.specs.Effects.{Effect}
+use Rattle.effects.proofs.Flat.{both-flat}
 use Rattle.effects.specs.Steps.{effectBy, partsOf, effectOn, numbersAt, effectsUpTo, StepTraced}
 
 -- the parts of a step's line are those of its effect
 told-parts : (shown : Shown) (slot number cell : ℕ) (v : SlotRecord) → effectParts shown slot number cell v ≡ partsOf (effectBy shown slot number cell v)
+unfolding flatMap
 told-parts Begun slot number cell v = refl
 told-parts Read slot number cell v = refl
 told-parts Reloaded slot number cell v = refl
@@ -49,11 +50,6 @@ step-traced a bytes out v at step slot cell looked made counted number lines =
       lines = rw (told-parts, number, counted, looked, step, slot, cell, code) at lines;
     }
 
--- the parts of the lines of effects, and of more
-parts-both : (effects more : List Effect) → partsOf (effects ++ more) ≡ partsOf effects ++ partsOf more
-parts-both [] more = refl
-parts-both (x ∷ effects) more = rw (parts-both effects more, append-assoc)
-
 -- a turn of the loop
 module _ (a l out₀ : List ℕ) (k : ℕ) {x out : List ℕ} {v : Numbers} {at : ℕ} {r : Traced} {y t : List ℕ}
     (here : x ≡ areaAfter a l k) (numbers : v ≡ numbersAt a l k) (made : StepTraced x (callAt l k) v out at r y t) where
@@ -66,4 +62,4 @@ module _ (a l out₀ : List ℕ) (k : ℕ) {x out : List ℕ} {v : Numbers} {at 
   unfolding effectsUpTo numbersAt
   lines-next before =
       let then = rw (here, numbers) at (made .lines) in
-      rw (add-one k, parts-both) (leaves-both _ _ _ before then)
+      rw (add-one k, both-flat) (leaves-both _ _ _ before then)

@@ -1,5 +1,5 @@
 -- The lines of a good sheet's effects all fit.
-use mathlib.Core.List.{List, [], _∷_, _++_, map, flatten, append-assoc, append-nil}
+use mathlib.Core.List.{List, [], _∷_, _++_, map, flatten, flatMap, append-assoc, append-nil}
 use mathlib.Core.Path.{_≡_, refl, sym, ap, _∙_}
 use Prim.Native.Nat.{ℕ, _-_, _≤_}
 use native.Mathlib.Omega.{arith}
@@ -35,7 +35,7 @@ line-flat word (n ∷ fields) =
     append-assoc word (field n ++ flatten (map field fields)) (newline ∷ []) ∙ ap (λ (l : List ℕ). word ++ (space ∷ l)) (line-flat (decimal n) fields)
 
 parts-flat : (effects : List Effect) → flatten (partsOf effects) ≡ trace effects
-unfolding flatten trace effectLine
+unfolding flatten flatMap trace effectLine
 parts-flat [] = refl
 parts-flat (x ∷ effects) =
     rw (← line-flat (effectWord x) (effectFields x), flat-both, flat-both, parts-flat effects) (simp append-assoc)

@@ -1,5 +1,5 @@
 -- The effects of a run on an area, step by step and for any bytes, and what the functions that make them leave.
-use mathlib.Core.List.{List, [], _∷_, _++_, map}
+use mathlib.Core.List.{List, [], _∷_, _++_, map, flatMap}
 use mathlib.Core.Path.{_≡_}
 use Prim.Native.Nat.{ℕ, zero, suc}
 use lib.ListN.{getD}
@@ -55,8 +55,7 @@ effectsUpTo a l (suc k) = effectsUpTo a l k ++ effectOn (areaAfter a l k) (callA
 
 -- the parts of the lines of effects: the word, each number with a space before it, the newline
 abbrev pub partsOf : List Effect → List (List ℕ)
-partsOf [] = []
-partsOf (x ∷ effects) = (effectWord x ∷ map field (effectFields x)) ++ ((newline ∷ []) ∷ []) ++ partsOf effects
+partsOf effects = flatMap (λ (x : Effect). (effectWord x ∷ map field (effectFields x)) ++ ((newline ∷ []) ∷ [])) effects
 
 -- one step made on an area `a`, and the line of its effect put into `out`
 pub record StepTraced (a : List ℕ) (call : Call) (v : Numbers) (out : List ℕ) (at : ℕ) (r : Traced) (b t : List ℕ) : Type 0 where

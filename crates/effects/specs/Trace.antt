@@ -1,5 +1,5 @@
 -- A trace: a line for each effect, its fields parted by one space, all decimal.
-use mathlib.Core.List.{List, [], _∷_, map, flatten}
+use mathlib.Core.List.{List, [], _∷_, map, flatMap}
 use Prim.Native.Nat.{ℕ}
 use Rattle.line.specs.Number.{decimal}
 use Rattle.line.specs.Line.{line}
@@ -25,5 +25,5 @@ unfoldable pub effectLine : Effect → List ℕ
 effectLine x = line (effectWord x ∷ map decimal (effectFields x))
 
 unfoldable pub trace : List Effect → List ℕ
-unfolding flatten
-trace effects = flatten (map effectLine effects)
+unfolding flatMap
+trace effects = flatMap effectLine effects

@@ -1,6 +1,6 @@
 -- Demand 3 for areas: on a well-formed area the step on bytes does what the step does on the state in it, so both have the same history.
 use mathlib.Core.Bool.{true}
-use mathlib.Core.List.{List, [], _∷_}
+use mathlib.Core.List.{List, [], _∷_, _++_}
 use mathlib.Core.Path.{_≡_, refl, _∙_, ap, ap₂}
 use Prim.Native.Nat.{ℕ}
 use Rattle.wire.specs.Field.{Bytes}
@@ -20,6 +20,12 @@ use Rattle.history.specs.Keeps.{bytesAfter}
 use Rattle.history.proofs.Keeps.{keeps}
 use Rattle.history.proofs.Keeps.OnBytes.{stepped, answered-reply}
 use Rattle.history.proofs.Demand3.{demand3}
+
+-- calls in two parts
+pub bytes-append : (M : Model) (a : List ℕ) (calls more : List Call) → bytesAfter M a (calls ++ more) ≡ bytesAfter M (bytesAfter M a calls) more
+unfolding bytesAfter
+bytes-append M a [] more = refl
+bytes-append M a (call ∷ calls) more = bytes-append M (stepOnBytes M a call .bytes) calls more
 
 module _ (M : Model) (fits : FitsBytes M) where
   -- the state in the bytes after a step

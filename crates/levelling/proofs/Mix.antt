@@ -6,18 +6,18 @@ use Prim.Native.Nat.{ℕ}
 use lib.Signed.{_≤ℤ_}
 use Rattle.wire.specs.Field.{Bytes}
 use Rattle.slot.specs.Logic.{All}
-use Rattle.rules.specs.Model.{Model, controller}
+use Rattle.rules.specs.Model.{controller}
 use Rattle.rules.specs.State.{cellAt}
 use Rattle.rules.specs.Step.{Call}
 use Rattle.rules.specs.Layout.{stateOf}
-use Rattle.rules.specs.Area.{stepOnBytes, atRest}
+use Rattle.rules.specs.Area.{atRest}
 use Rattle.rules.proofs.Controller.{controller-fits}
 use Rattle.rules.proofs.LaidOut.{lays-out}
 use Rattle.history.specs.History.{Demand3}
 use Rattle.history.specs.Keeps.{bytesAfter}
 use Rattle.history.proofs.Keeps.{keeps}
 use Rattle.history.proofs.Keeps.OnBytes.{Good, run-good}
-use Rattle.history.proofs.Histories.{histories, rest-right}
+use Rattle.history.proofs.Histories.{bytes-append, histories, rest-right}
 use Rattle.fresh.specs.LaidOut.{LaidOut}
 use Rattle.crocktendril.proofs.Demands.{laid-bytes, demand1}
 use Rattle.levelling.specs.AtC.{Made, stepMade, wearMade, leftBy, Keeping, inTurn, lastLeft, coreCalls, allCoreCalls, happened, codeIn, MixAtC}
@@ -26,12 +26,6 @@ use Rattle.levelling.proofs.AsCalls.{as-calls}
 use Rattle.levelling.proofs.AtC.{wear-at-c}
 use Rattle.levelling.proofs.CountsUp.{counts-up-of, counts-are-of}
 use Rattle.levelling.proofs.NeverFalls.{never-falls}
-
--- core calls in two parts
-bytes-append : (M : Model) (a : List ℕ) (calls more : List Call) → bytesAfter M a (calls ++ more) ≡ bytesAfter M (bytesAfter M a calls) more
-unfolding bytesAfter
-bytes-append M a [] more = refl
-bytes-append M a (call ∷ calls) more = bytes-append M (stepOnBytes M a call .bytes) calls more
 
 -- a call leaves what its core calls leave
 call-left : (l : List ℕ) → Bytes l → (m : Made) → Keeping l m → leftBy m ≡ bytesAfter controller l (coreCalls l m)

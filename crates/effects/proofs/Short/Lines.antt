@@ -1,6 +1,6 @@
 -- How long the lines of a trace are.
-use mathlib.Core.List.{List, [], _∷_, _++_, map, flatten}
-use mathlib.Core.Path.{_≡_}
+use mathlib.Core.List.{List, [], _∷_, _++_, map, flatMap}
+use mathlib.Core.Path.{_≡_, ap, _∙_}
 use Prim.Native.Nat.{ℕ, suc, _+_, _*_, _<_, _≤_}
 use native.Mathlib.Omega.{arith}
 use lib.ListN.{length, length-append}
@@ -10,6 +10,7 @@ use Rattle.line.specs.Line.{line}
 use Rattle.line.specs.declared.Style.the-variants.{Decimal}
 use Rattle.line.proofs.Number.{few}
 use Rattle.effects.specs.Effects.{Effect}
+use Rattle.effects.proofs.Flat.{both-flat}
 use Rattle.effects.specs.Trace.{effectWord, effectFields, effectLine, trace}
 
 -- the bytes of a line's numbers, each with a space before it
@@ -29,15 +30,13 @@ line-long word (n ∷ fields) = rw (length-append, line-long (decimal n) fields)
 
 -- the trace of no effect, of one, and of some after others
 pub none-long : length (trace []) ≡ 0
-unfolding trace flatten
+unfolding trace flatMap
 none-long = omega arith
 
 pub one-long : (x : Effect) → length (trace (x ∷ [])) ≡ length (effectWord x) + spaced (effectFields x) + 1
-unfolding trace effectLine flatten
+unfolding trace effectLine flatMap
 one-long x = rw length-append (omega (arith, line-long (effectWord x) (effectFields x)))
 
 pub both-long : (l m : List Effect) → length (trace (l ++ m)) ≡ length (trace l) + length (trace m)
-unfolding trace flatten
-both-long [] m = omega arith
-both-long (x ∷ l) m =
-    omega (arith, length-append (effectLine x) (trace (l ++ m)), length-append (effectLine x) (trace l), both-long l m)
+unfolding trace
+both-long l m = ap length (both-flat effectLine l m) ∙ length-append (trace l) (trace m)

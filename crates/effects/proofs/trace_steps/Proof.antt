@@ -1,4 +1,5 @@
 -- `trace_steps` meets its contract: before each turn the first `k` steps are made, and the lines of their effects gathered.
+use mathlib.Core.List.{flatMap}
 use mathlib.Core.Path.{_≡_, refl, _∙_}
 use Prim.Native.Nat.{_-_, _/_, _≤_}
 use native.Mathlib.Omega.{arith}
@@ -24,7 +25,7 @@ none-requires : tie.Need-none-requires Inv-loop μ-loop
 none-requires c κs = tt
 
 loop-holds : tie.Need-loop-holds Inv-loop μ-loop
-unfolding areaAfter numbersAt effectsUpTo
+unfolding areaAfter numbersAt effectsUpTo flatMap
 loop-holds c = (omega arith, refl, refl, refl, c .none .ensures, leaves-none)
 
 mul-at : tie.Need-mul-at Inv-loop μ-loop
