@@ -1,16 +1,19 @@
--- The logs of a slot of a good area: each fits its array and each entry is of a cell of the area, since the slot's logs are right.
+-- The logs of a slot of a good area: each fits its array, each entry is of a cell of the area, and the write log ascends, since the slot's logs are right.
 use mathlib.Core.Bool.{true}
 use mathlib.Core.List.{List}
 use mathlib.Core.Path.{_≡_, refl, ap, _∙_}
 use Prim.Native.Nat.{ℕ, _≤_, _<_}
+use lib.Dec.{ltb}
 use lib.ListN.{length, getD}
 use Rattle.slot.specs.declared.ReadEntry.{ReadEntry}
 use Rattle.slot.specs.declared.WriteEntry.{WriteEntry}
 use Rattle.slot.specs.declared.SlotRecord.{SlotRecord}
 use Rattle.slot.specs.Layout.{readCapacity, writeCapacity, noRead, noWrite}
-use Rattle.slot.specs.Logs.{paddedReads}
+use Rattle.slot.specs.Logic.{pairwise}
+use Rattle.slot.specs.Logs.{paddedReads, writeLog}
 use Rattle.slot.proofs.Logic.{and-left, and-right, all-at}
 use Rattle.slot.proofs.Padding.{length-padded}
+use Rattle.packed.specs.Places.{slotIn, Ascends}
 use Rattle.rules.specs.Model.{controller}
 use Rattle.rules.specs.State.{Slot, idle, opened, locking, twilight, publishing, readsOf, writesOf, startOf, slotAt}
 use Rattle.rules.specs.LogsRight.{readsRight, writesRight}
@@ -22,15 +25,17 @@ use Rattle.rules.proofs.LogFront.{front-inside}
 use Rattle.rules.proofs.RoundTrip.{state-right, state-but-holders}
 use Rattle.rules.proofs.AreaRead.{count-read, slots-read}
 use Rattle.area.specs.Good.{Good, stateIn}
-use Rattle.area.specs.InPlace.{recordAt, fieldsIn}
+use Rattle.area.specs.InPlace.{slotStart, recordAt, fieldsIn}
+use Rattle.area.proofs.SlotRead.{slot-of}
 
--- each log of v fits its array, and each entry is of a cell of the area
+-- each log of v fits its array, each entry is of a cell of the area, and the write log ascends
 pub record Logged (l : List ℕ) (v : SlotRecord) : Type 0 where
   pub whole : length (v .reads) ≡ readCapacity
   pub readsMost : v .readcount ≤ readCapacity
   pub readsInside : (k : ℕ) → k < v .readcount → getD (v .reads) k noRead .cell < countIn l
   pub writesMost : v .writecount ≤ writeCapacity
   pub writesInside : (k : ℕ) → k < v .writecount → getD (v .writes) k noWrite .cell < countIn l
+  pub ascending : pairwise (λ (e f : WriteEntry). ltb (e .cell) (f .cell)) (writeLog v) ≡ true
 
 -- a slot's record has its read log, padded, and the lengths of both logs
 reads-laid : (x : Slot) → lay x .reads ≡ paddedReads (readsOf x)
@@ -69,12 +74,17 @@ logged-laid l x logs =
       writesInside = rw (← count-read controller l)
           (front-inside (λ (e : WriteEntry). e .cell) (λ (e : WriteEntry). e .word) noWrite (stateIn l .cells) (lay x .writes) (writesOf x) (lay x .writecount)
           (write-log x) (counts-laid x .1) (and-left _ _ (logs .writesHold)));
+      ascending = rw (write-log x) (and-right _ _ (logs .writesHold));
     }
 
 -- the record of a slot of a good area
 pub logged-of : (l : List ℕ) → Good l → (i : ℕ) → i < 8 → (v : SlotRecord) → v ≡ lay (slotAt (stateIn l) i) → Logged l v
 logged-of l good i h v e =
     rw e (logged-laid l (slotAt (stateIn l) i) (slot-logs-hold (stateIn l .cells) (stateIn l .clock) (slotAt (stateIn l) i) (slot-holds l good i h)))
+
+-- what is read of it where it stands ascends too
+pub ascends-of : {l : List ℕ} {i at : ℕ} → Good l → i < 8 → at ≡ slotStart l i → Ascends 8 at l
+ascends-of {l} {i} {at} good below place = logged-of l good i below (slotIn 8 at l) (slot-of good below place) .ascending
 
 -- its read log, of which the slot's fields give the count
 pub record Counted (l : List ℕ) (i n : ℕ) : Type 0 where

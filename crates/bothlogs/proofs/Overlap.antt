@@ -1,12 +1,13 @@
--- The table of marked cells, entry by entry, and that it does not matter which log is gone through first.
+-- The table of marked cells, entry by entry, with a number above which none is marked; and that it does not matter which log is gone through first.
 use mathlib.Core.Bool.{Bool, true, false}
 use mathlib.Core.List.{List, [], _∷_, _++_}
 use mathlib.Core.Path.{_≡_, refl, sym, _∙_, ap}
-use Prim.Native.Nat.{ℕ, _+_, _<_}
+use Prim.Native.Nat.{ℕ, _+_, _<_, _≤_}
 use native.Mathlib.Numerals.{add-one}
 use native.Mathlib.Omega.{arith}
-use borrow.Author.Tests.{eqb-true, eqb-false}
-use lib.Dec.{eqb}
+use borrow.Author.Tests.{eqb-true, eqb-false, ne-eqb, ltb-true}
+use lib.Bits.{bitOr, or-add-and, and-le-l, and-le-r}
+use lib.Dec.{eqb, ltb}
 use lib.ListN.{length, getD, take, set, replicate, length-set, getD-replicate}
 use lib.Seq.{take-suc, getD-set-same, getD-set-other}
 use Rattle.wire.proofs.Laws.Table.{getD-tab, tab-ext, tab-of}
@@ -20,14 +21,23 @@ use Rattle.bothlogs.specs.BothLogs.{marksCell, markedTable}
 
 -- ---- the table
 
--- what the table has for each cell, once the first i entries of the array are in
-pub record Tabled (marked : List ℕ) (array : List ReadEntry) (i : ℕ) : Type 0 where
+-- what the table has for each cell, and above what number none is marked, once the first i entries of the array are in
+pub record Tabled (marked : List ℕ) (top : ℕ) (array : List ReadEntry) (i : ℕ) : Type 0 where
   pub size : length marked ≡ 64
   pub byte : (c : ℕ) → c < 64 → getD marked c 0 ≡ bit (marksCell (take i array) c)
+  pub above : (c : ℕ) → top < c → marksCell (take i array) c ≡ false
 
-pub tabled-start : (array : List ReadEntry) → Tabled (replicate 64 0) array 0
+pub tabled-start : {marked : List ℕ} (array : List ReadEntry) → marked ≡ replicate 64 0 → Tabled marked 0 array 0
 unfolding marksCell any
-tabled-start array = record { size = refl; byte = λ c h. getD-replicate 64 c 0 0 h }
+tabled-start array zeros = rw zeros record { size = refl; byte = λ c h. getD-replicate 64 c 0 0 h; above = λ c h. refl }
+
+-- a number put together of two is below neither
+pub covers : (a b : ℕ) → (a ≤ bitOr a b) × (b ≤ bitOr a b)
+covers a b =
+    let both = or-add-and a b in
+    let left = and-le-l a b in
+    let right = and-le-r a b in
+    (omega arith, omega arith)
 
 -- one entry more
 next-marks : (array : List ReadEntry) (i : ℕ) {e : ReadEntry} → i < length array → e ≡ getD array i noRead → (c : ℕ)
@@ -38,25 +48,32 @@ next-marks array i {e} h there c =
     (ap (λ (n : ℕ). take n array) (add-one i) ∙ take-suc array i noRead h ∙ ap (λ (f : ReadEntry). take i array ++ (f ∷ [])) (sym there))
     ∙ any-snoc (λ (f : ReadEntry). f .mark and eqb c (f .cell)) (take i array) e
 
-module _ (array : List ReadEntry) (i : ℕ) (inside : i < length array) {marked : List ℕ} (so-far : Tabled marked array i) {e : ReadEntry} (there : e ≡ getD array i noRead) where
+module _ (array : List ReadEntry) (i : ℕ) (inside : i < length array) {marked : List ℕ} {top : ℕ} (so-far : Tabled marked top array i) {e : ReadEntry}
+    (there : e ≡ getD array i noRead) where
   -- an entry without a mark changes nothing
   no-more : e .mark ≡ false → (c : ℕ) → marksCell (take (i + 1) array) c ≡ marksCell (take i array) c
   unfolding _and_
   no-more off c = next-marks array i inside there c ∙ rw off (or-false (marksCell (take i array) c))
 
-  pub tabled-unmarked : e .mark ≡ false → Tabled marked array (i + 1)
-  tabled-unmarked off = record { size = so-far .size; byte = λ c h. so-far .byte c h ∙ sym (ap bit (no-more off c)) }
+  pub tabled-unmarked : e .mark ≡ false → Tabled marked top array (i + 1)
+  tabled-unmarked off =
+      record {
+        size = so-far .size;
+        byte = λ c h. so-far .byte c h ∙ sym (ap bit (no-more off c));
+        above = λ c h. no-more off c ∙ so-far .above c h;
+      }
 
-  -- one with a mark puts its cell
+  -- one with a mark puts its cell, and a new top is below neither it nor the old one
   one-more : e .mark ≡ true → (c : ℕ) → marksCell (take (i + 1) array) c ≡ (marksCell (take i array) c or eqb c (e .cell))
   unfolding _and_
   one-more on c = next-marks array i inside there c ∙ rw on
 
-  pub tabled-marked : e .mark ≡ true → Tabled (set marked (e .cell) 1) array (i + 1)
-  tabled-marked on =
+  pub tabled-marked : {next : ℕ} → e .mark ≡ true → top ≤ next → e .cell ≤ next → Tabled (set marked (e .cell) 1) next array (i + 1)
+  tabled-marked on high higher =
       record {
         size = simp length-set (so-far .size);
         byte = λ c h. by c h (eqb c (e .cell)) refl ∙ sym (ap bit (one-more on c));
+        above = λ c h. one-more on c ∙ rw (so-far .above c (omega arith), ne-eqb c (e .cell) (omega arith)) (or-false false);
       }
     where
       by : (c : ℕ) → c < 64 → (b : Bool) → eqb c (e .cell) ≡ b → getD (set marked (e .cell) 1) c 0 ≡ bit (marksCell (take i array) c or eqb c (e .cell))
@@ -67,8 +84,8 @@ module _ (array : List ReadEntry) (i : ℕ) (inside : i < length array) {marked 
       by c h false s = getD-set-other marked (e .cell) c 1 0 (eqb-false _ _ s) ∙ so-far .byte c h ∙ rw (s, or-false)
 
 -- all entries are in
-pub tabled-whole : {marked : List ℕ} {array : List ReadEntry} {n : ℕ} → Tabled marked array n → marked ≡ markedTable (take n array)
-tabled-whole {marked} {array} {n} done =
+pub tabled-whole : {marked : List ℕ} {top : ℕ} {array : List ReadEntry} {n : ℕ} → Tabled marked top array n → marked ≡ markedTable (take n array)
+tabled-whole {marked} {top} {array} {n} done =
     sym (tab-of 64 marked 0 (done .size)) ∙ tab-ext 64 (λ c. getD marked c 0) (λ c. bit (marksCell (take n array) c)) (done .byte)
 
 -- what the table tells of a cell
@@ -89,6 +106,11 @@ module _ (reads : List ReadEntry) {marked : List ℕ} (table : marked ≡ marked
       by : (b : Bool) → (bit b ≡ 1 → ⊥) → b ≡ false
       by true p = absurd (p refl)
       by false p = refl
+
+-- past a cell above the top none is marked
+pub none-past : (reads : List ReadEntry) {top here : ℕ} → ((c : ℕ) → top < c → marksCell reads c ≡ false) → top < here
+    → (y : WriteEntry) → ltb here (y .cell) ≡ true → marksCell reads (y .cell) ≡ false
+none-past reads {top} {here} above high y rises = above (y .cell) (omega (arith, ltb-true here (y .cell) rises))
 
 -- ---- which log is gone through first
 

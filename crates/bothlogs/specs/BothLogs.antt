@@ -9,9 +9,9 @@ use Rattle.slot.specs.declared.ReadEntry.{ReadEntry}
 use Rattle.slot.specs.Layout.{readCapacity, writeCapacity, noRead, noWrite, slotSize, bit}
 use Rattle.slot.specs.Logic.{_and_, any}
 use Rattle.slot.specs.Logs.{hasMarkedWritten}
-use Rattle.packed.specs.Places.{slotIn}
+use Rattle.packed.specs.Places.{slotIn, Ascends}
 
--- the slot is there, its stamps have at most 8 bytes, its counts are at most 16, and the cells in its logs are below 64
+-- the slot is there, its stamps have at most 8 bytes, its counts are at most 16, the cells in its logs are below 64, and its write log ascends
 pub record Indexed (width at : ℕ) (l : List ℕ) : Type 0 where
   pub narrow : width ≤ 8
   pub size : at + slotSize width ≤ length l
@@ -19,6 +19,7 @@ pub record Indexed (width at : ℕ) (l : List ℕ) : Type 0 where
   pub writes : slotIn width at l .writecount ≤ writeCapacity
   pub readsBelow : (k : ℕ) → k < slotIn width at l .readcount → getD (slotIn width at l .reads) k noRead .cell < 64
   pub writesBelow : (k : ℕ) → k < slotIn width at l .writecount → getD (slotIn width at l .writes) k noWrite .cell < 64
+  pub ascending : Ascends width at l
 
 -- the read log has the cell with a mark
 unfoldable pub marksCell : List ReadEntry → ℕ → Bool

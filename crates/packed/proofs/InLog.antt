@@ -5,12 +5,15 @@ use mathlib.Core.Option.{none, some}
 use mathlib.Core.Path.{_≡_, refl, sym}
 use Prim.Native.Nat.{ℕ, _+_, _*_, _<_, _≤_}
 use native.Mathlib.Omega.{arith}
+use borrow.Author.Tests.{ne-eqb, ltb-true}
+use lib.Dec.{eqb, ltb}
 use lib.ListN.{length, getD, take, drop, length-take}
 use lib.Seq.{getD-drop}
 use Rattle.wire.proofs.Laws.Table.{length-tab}
 use Rattle.slot.specs.Layout.{readCapacity, writeCapacity, readOf, writeOf, readSize, writeSize, readsAt, writesAt, slotOf}
-use Rattle.slot.specs.Logic.{first}
-use Rattle.slot.proofs.Search.{search-next, search-found, search-end}
+use Rattle.slot.specs.declared.WriteEntry.{WriteEntry}
+use Rattle.slot.specs.Logic.{first, pairwise}
+use Rattle.slot.proofs.Search.{search-next, search-found, search-end, search-past}
 
 -- its counts, and how long its arrays are
 module _ (w at : ℕ) (l : List ℕ) where
@@ -55,3 +58,17 @@ module _ {A : Type 0} {f : A → Bool} (d : A) {array : List A} {size count i : 
 
     pub entry-out : size ≤ i → none ≡ first f (take n array)
     entry-out h = rw (← counted) (sym (search-end f d array count i (so-far .left) (rw length-take (omega (arith, so-far .sized)))))
+
+    -- past an entry to which all that follow stand in R, if neither it nor such a one passes
+    pub entry-past : (R : A → A → Bool) → pairwise R (take n array) ≡ true → {e : A} → i < count → i < size → e ≡ getD array i d → f e ≡ false
+        → ((y : A) → R e y ≡ true → f y ≡ false) → none ≡ first f (take n array)
+    entry-past R ordered {e} h k there q past =
+        rw (← counted)
+        (sym (search-past f d array count i (so-far .left) R (rw counted ordered) h (omega (arith, so-far .sized)) (rw (← there) q) (rw (← there) past)))
+
+-- a smaller cell is not the one sought, nor is one that stands above a larger cell
+pub smaller : {cell here : ℕ} → here < cell → eqb here cell ≡ false
+smaller {cell} {here} below = ne-eqb here cell (omega arith)
+
+pub larger : {cell here : ℕ} → cell < here → (y : WriteEntry) → ltb here (y .cell) ≡ true → eqb (y .cell) cell ≡ false
+larger {cell} {here} above y rises = ne-eqb (y .cell) cell (omega (arith, ltb-true here (y .cell) rises))

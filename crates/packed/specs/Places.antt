@@ -1,10 +1,13 @@
 -- The slot at `at` of the list l, for stamps of `width` bytes: what is read of it, and what is left of l when a part of it is put.
-use mathlib.Core.Bool.{Bool}
+use mathlib.Core.Bool.{Bool, true}
 use mathlib.Core.List.{List}
+use mathlib.Core.Path.{_≡_}
 use Prim.Native.Nat.{ℕ, _+_, _*_}
+use lib.Dec.{ltb}
 use lib.ListN.{drop, getD}
 use Rattle.wire.specs.Part.{splice}
 use Rattle.slot.specs.Layout.{noRead, noWrite, empty, readSize, readsAt, writesAt, readBytes, fieldBytes, readLogBytes, writeLogBytes, slotOf, slotBytes}
+use Rattle.slot.specs.Logic.{pairwise}
 use Rattle.slot.specs.Logs.{readLog, writeLog, readEntry, writeEntry, hasMark}
 use Rattle.slot.specs.Operations.{readFound, writeFound}
 use Rattle.slot.specs.Fields.{fieldsOf, withoutReads}
@@ -31,6 +34,10 @@ module _ (width at : ℕ) (l : List ℕ) where
 
   abbrev pub writeEntryAt : ℕ → WriteEntry
   writeEntryAt k = getD (slotIn .writes) k noWrite
+
+  -- its write log ascends by cell
+  abbrev pub Ascends : Type 0
+  Ascends = pairwise (λ (e f : WriteEntry). ltb (e .cell) (f .cell)) (writeLog slotIn) ≡ true
 
   abbrev pub readFoundAt : ℕ → ReadFound
   readFoundAt cell = readFound (readEntry (readLog slotIn) cell)

@@ -8,6 +8,7 @@ ghost use Rattle.packed.specs.Places.{
   withWritesAt,
   readEntryAt,
   writeEntryAt,
+  Ascends,
   readFoundAt,
   writeFoundAt,
   markedAt,
@@ -86,19 +87,22 @@ pub fn find_read(s: &[u8], at: usize, width: usize, cell: u8) -> ReadFound
     ReadFound::Nothing
 }
 
-// The write entry of a cell.
+// The write entry of a cell. The log ascends: the first entry that is not below the cell is its own, or there is none.
 pub fn find_write(s: &[u8], at: usize, width: usize, cell: u8) -> WriteFound
-    requires { ⌜ (width ≤ 8) × (at + slotSize width ≤ length (now s)) ⌝ }
+    requires { ⌜ (width ≤ 8) × (at + slotSize width ≤ length (now s)) × Ascends width at (now s) ⌝ }
     ensures { λ r. ⌜ r ≡ writeFoundAt width at (now (s .entry)) cell ⌝ }
 {
     let count = s[at + 4] as usize;
-    let mut i = 0;
-    while i < SlotRecord::WRITES && i < count {
-        let e = write_at(s, at, width, i);
-        if e.cell == cell {
-            return WriteFound::Entry(e);
+    let mut next = 0;
+    while next < SlotRecord::WRITES && next < count {
+        let e = write_at(s, at, width, next);
+        if cell <= e.cell {
+            if e.cell == cell {
+                return WriteFound::Entry(e);
+            }
+            return WriteFound::Nothing;
         }
-        i += 1;
+        next += 1;
     }
     WriteFound::Nothing
 }

@@ -1,4 +1,4 @@
--- In a good area a slot is where its offset says, and the cells in its logs are below 64.
+-- In a good area a slot is where its offset says, the cells in its logs are below 64, and its write log ascends.
 use mathlib.Core.List.{List}
 use mathlib.Core.Path.{_≡_}
 use Prim.Native.Nat.{ℕ, _<_}
@@ -22,4 +22,5 @@ indexed-of {l} {i} {at} good below place =
       writes = logged .writesMost;
       readsBelow = λ k h. let inside = logged .readsInside k h in omega arith;
       writesBelow = λ k h. let inside = logged .writesInside k h in omega arith;
+      ascending = logged .ascending;
     }

@@ -5,7 +5,7 @@ use mathlib.Core.Path.{_≡_, refl, sym, _∙_, ap, ap₂}
 use Prim.Native.Nat.{ℕ, zero, suc, _<_}
 use native.Mathlib.Omega.{arith}
 use native.Mathlib.Nat.{not-suc-le-zero, le-of-suc-le-suc}
-use lib.ListN.{length, getD}
+use lib.ListN.{length, getD, drop}
 use borrow.Author.Count.{below-more}
 use Rattle.slot.specs.Logic.{_and_, _or_, every, all, any, pairwise}
 
@@ -147,3 +147,10 @@ module _ {A : Type 0} where
   pairwise-map R Q g [] e = refl
   pairwise-map R Q g (x ∷ l) e =
       ap₂ _and_ (all-map (R (g x)) g l ∙ all-ext (λ y. R (g x) (g y)) (Q x) l (e x)) (pairwise-map R Q g l e)
+
+  -- .. and of what is left of a list
+  pub pairwise-drop : (R : A → A → Bool) (n : ℕ) (l : List A) → pairwise R l ≡ true → pairwise R (drop n l) ≡ true
+  unfolding pairwise
+  pairwise-drop R zero l p = p
+  pairwise-drop R (suc n) [] p = p
+  pairwise-drop R (suc n) (x ∷ l) p = pairwise-drop R n l (and-right _ _ p)

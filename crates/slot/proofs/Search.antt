@@ -10,10 +10,11 @@ use native.Mathlib.Omega.{arith}
 use lib.Dec.{eqb}
 use lib.ListN.{length, getD, take, drop, length-take, drop-of-length-le}
 use lib.Seq.{drop-cons, getD-take}
-use Rattle.slot.specs.Logic.{_or_, any, first}
+use Rattle.slot.specs.Logic.{_or_, all, any, first, pairwise}
 use Rattle.slot.specs.Logs.{readEntry, writeEntry, readsCell, writesCell}
 use Rattle.slot.specs.declared.ReadEntry.{ReadEntry}
 use Rattle.slot.specs.declared.WriteEntry.{WriteEntry}
+use Rattle.slot.proofs.Logic.{and-left, and-right, pairwise-drop}
 
 -- one element in front: by its test, and by what is known of the rest
 module _ {A : Type 0} (x : A) where
@@ -52,6 +53,12 @@ module _ {A : Type 0} (f : A → Bool) where
   of-some [] y p = let z : _≡_ {A = ℕ} 0 1 = cc in absurd (omega arith)
   of-some (x ∷ l) y p = front-some x (f x) (any f l) (first f l) y (of-some l y) p
 
+  -- nothing is found where all elements meet a test that what passes does not
+  pub none-where : (g : A → Bool) (l : List A) → ((y : A) → g y ≡ true → f y ≡ false) → all g l ≡ true → first f l ≡ none
+  unfolding all first
+  none-where g [] h p = refl
+  none-where g (x ∷ l) h p = rw (h x (and-left _ _ p)) (none-where g l h (and-right _ _ p))
+
   -- what is found passes the test
   pub found-passes : (l : List A) (y : A) → first f l ≡ some y → f y ≡ true
   unfolding first
@@ -77,13 +84,13 @@ write-has writes c = of-some (λ (e : WriteEntry). eqb (e .cell) c) writes
 
 -- a search through the first n elements of an array, at place i
 module _ {A : Type 0} (f : A → Bool) (d : A) (array : List A) (n i : ℕ) (from : first f (take n array) ≡ first f (drop i (take n array))) where
+  left-here : i < n → i < length array → drop i (take n array) ≡ getD array i d ∷ drop (suc i) (take n array)
+  left-here h k = drop-cons (take n array) i d (rw length-take (omega arith)) ∙ rw (getD-take n array i d h)
+
   search-here : i < n → i < length array
       → first f (take n array) ≡ cond (f (getD array i d)) (some (getD array i d)) (first f (drop (suc i) (take n array)))
   unfolding first
-  search-here h k =
-      let place : drop i (take n array) ≡ getD array i d ∷ drop (suc i) (take n array) =
-      drop-cons (take n array) i d (rw length-take (omega arith)) ∙ rw (getD-take n array i d h) in
-      from ∙ rw place
+  search-here h k = from ∙ rw (left-here h k)
 
   pub search-next : i < n → i < length array → f (getD array i d) ≡ false → first f (take n array) ≡ first f (drop (i + 1) (take n array))
   search-next h k q = search-here h k ∙ rw (q, add-one)
@@ -94,3 +101,11 @@ module _ {A : Type 0} (f : A → Bool) (d : A) (array : List A) (n i : ℕ) (fro
   pub search-end : length (take n array) ≤ i → first f (take n array) ≡ none
   unfolding first
   search-end h = from ∙ rw (drop-of-length-le (take n array) h)
+
+  -- where all that follows an element stands in R to it, and neither it nor what stands so passes, nothing does
+  pub search-past : (R : A → A → Bool) → pairwise R (take n array) ≡ true → i < n → i < length array → f (getD array i d) ≡ false
+      → ((y : A) → R (getD array i d) y ≡ true → f y ≡ false) → first f (take n array) ≡ none
+  unfolding pairwise
+  search-past R ordered h k q past =
+      let after = rw (left-here h k) at (pairwise-drop R i (take n array) ordered) in
+      search-here h k ∙ rw q (none-where f (R (getD array i d)) (drop (suc i) (take n array)) past (and-left _ _ after))

@@ -31,7 +31,7 @@ pub counted : (l : List ℕ) → 197 ≤ length l → countsRight (slotOf 8 l) �
 unfolding countsRight slotOf
 counted l h p = record { size = h; reads = leb-true _ _ (and-left _ _ p); writes = leb-true _ _ (and-right _ _ p) }
 
--- right logs have cells below n, and so below 64
+-- right logs have cells below n, and so below 64, and the write log ascends
 pub indexed : (a l : List ℕ) (n : ℕ) → Framed n a → Counted l → logsRightIn a (slotOf 8 l) ≡ true → Indexed 8 0 l
 unfolding logsRightIn readsRight writesRight slotOf
 indexed a l n framed counted p =
@@ -48,6 +48,7 @@ indexed a l n framed counted p =
           let below = front-inside (λ (e : WriteEntry). e .cell) (λ (e : WriteEntry). e .word) noWrite (cellsIn controller a) (slotOf 8 l .writes) _ (slotOf 8 l .writecount)
           refl (sym (length-take-le _ _ (rw (writes-sized 8 0 l) (counted .writes)))) (and-left _ _ (and-right _ _ p)) k h in
           omega (arith, length-cells n a framed, framed .many);
+      ascending = and-right _ _ (and-right _ _ p);
     }
 
 -- a busy slot's clauses in the order of the code

@@ -17,7 +17,7 @@ use Rattle.slot.specs.declared.SlotRecord.{SlotRecord}
 use Rattle.slot.specs.declared.WriteEntry.{WriteEntry}
 use Rattle.slot.specs.declared.WriteFound.{WriteFound}
 use Rattle.slot.proofs.Search.{read-lacks, read-has, write-lacks, write-has}
-use Rattle.packed.specs.Places.{slotIn, withWritesAt, readFoundAt, writeFoundAt}
+use Rattle.packed.specs.Places.{slotIn, withWritesAt, readFoundAt}
 use Rattle.telling.specs.Looking.{inEither, slotStart, lookedAt}
 
 -- what two searches find is whether one of the logs has the cell
@@ -41,8 +41,8 @@ module _ (a : List ℕ) (slot cell : ℕ) {cells i at : ℕ} (count : cells ≡ 
   unfolding lookedAt
   none-looked h e = rw (e, lt-leb (slotStart a slot + 197) (length a) (omega (arith, starts)))
 
-  pub looked : {w : WriteFound} {r : ReadFound} {b : Bool} {v : SlotRecord} → at + 197 ≤ length a → w ≡ writeFoundAt 8 at a cell → r ≡ readFoundAt 8 at a cell
-      → b ≡ inEither w r → v ≡ withWritesAt 8 at a → record { logged = b; own = v } ≡ lookedAt a slot cell
+  pub looked : {w : WriteFound} {r : ReadFound} {b : Bool} {v : SlotRecord} → at + 197 ≤ length a → v ≡ withWritesAt 8 at a → w ≡ writeFound (writeEntry (writeLog v) cell)
+      → r ≡ readFoundAt 8 at a cell → b ≡ inEither w r → record { logged = b; own = v } ≡ lookedAt a slot cell
   unfolding lookedAt
-  looked h p q e f =
+  looked h f p q e =
       rw (le-leb (slotStart a slot + 197) (length a) (omega (arith, starts)), ← starts, e, p, q, f, either-found (writeLog (slotIn 8 at a)) (readLog (slotIn 8 at a)) cell)

@@ -1,6 +1,8 @@
 // What one step tells: what its slot has before it, and its line. Any bytes are taken, and any buffers.
 ghost use mathlib.Core.Path.{_≡_};
 ghost use Prim.Native.Nat.{pred};
+ghost use Rattle.slot.specs.Logs.{writeLog, writeEntry};
+ghost use Rattle.slot.specs.Operations.{writeFound};
 ghost use Rattle.line.specs.Gather.{Leaves, gathered, addedParts};
 ghost use Rattle.telling.specs.Looking.{inEither, lookedAt};
 ghost use Rattle.telling.specs.Parts.{wordParts, cellParts, restParts, effectParts, stepParts};
@@ -30,6 +32,23 @@ fn index(slot: u8) -> u8
     slot - 1
 }
 
+// The write entry of a cell in a slot's record. Any bytes are taken, so the log need not ascend, and all of it is gone through.
+fn find_written(own: SlotRecord, cell: u8) -> WriteFound
+    ensures { λ r. ⌜ r ≡ writeFound (writeEntry (writeLog own) cell) ⌝ }
+{
+    let log = own.writes;
+    let count = own.writecount as usize;
+    let mut i = 0;
+    while i < SlotRecord::WRITES && i < count {
+        let e = log[i];
+        if e.cell == cell {
+            return WriteFound::Entry(e);
+        }
+        i += 1;
+    }
+    WriteFound::Nothing
+}
+
 // Whether a search of one of the logs has found an entry.
 fn in_either(written: WriteFound, read: ReadFound) -> bool
     ensures { λ r. ⌜ r ≡ inEither written read ⌝ }
@@ -56,11 +75,12 @@ pub fn look(area: &[u8], slot: u8, cell: u8) -> Before
             own: SlotRecord::empty(),
         };
     }
-    let written = packed::find_write(area, at, STAMP, cell);
+    let own = packed::with_writes(area, at, STAMP);
+    let written = find_written(own, cell);
     let read = packed::find_read(area, at, STAMP, cell);
     Before {
         logged: in_either(written, read),
-        own: packed::with_writes(area, at, STAMP),
+        own,
     }
 }
 

@@ -11,14 +11,10 @@ use Rattle.slot.specs.declared.SlotRecord.{SlotRecord}
 use Rattle.slot.specs.Layout.{writeCapacity, noWrite}
 use Rattle.slot.specs.Logic.{pairwise}
 use Rattle.slot.specs.Logs.{writeLog, paddedWrites}
-use Rattle.slot.proofs.Logic.{and-right}
-use Rattle.rules.specs.State.{Slot, slotAt, readsOf, writesOf, startOf}
-use Rattle.rules.specs.LogsRight.{writesRight}
+use Rattle.rules.specs.State.{slotAt}
 use Rattle.rules.specs.Layout.{lay, countIn}
-use Rattle.rules.proofs.LayView.{write-log}
-use Rattle.rules.proofs.StateSized.{LogsHold, slot-logs-hold}
 use Rattle.area.specs.Good.{Good, stateIn}
-use Rattle.area.proofs.Logged.{Logged, slot-holds, logged-of}
+use Rattle.area.proofs.Logged.{Logged, logged-of}
 use Rattle.ways.proofs.Phase.{write-count, unused-writes}
 
 pub record Known (l : List ℕ) (v : SlotRecord) : Type 0 where
@@ -28,25 +24,14 @@ pub record Known (l : List ℕ) (v : SlotRecord) : Type 0 where
   pub ascending : pairwise (λ (e f : WriteEntry). ltb (e .cell) (f .cell)) (writeLog v) ≡ true
   pub writesBelow : (k : ℕ) → k < v .writecount → getD (v .writes) k noWrite .cell < countIn l
 
--- v is the record of a slot whose logs hold
-module _ (l : List ℕ) (clock : ℕ) (x : Slot) (logs : LogsHold (stateIn l .cells) clock (startOf x) (readsOf x) (writesOf x))
-    (v : SlotRecord) (laid : v ≡ lay x) where
-  writes : writeLog v ≡ writesOf x
-  writes = rw laid (write-log x)
-
-  from-logs : Logged l v → Known l v
-  unfolding writesRight
-  from-logs logged =
-      record {
-        counted = write-count x v laid;
-        writesFew = logged .writesMost;
-        unused = unused-writes x v laid;
-        ascending = rw writes (and-right _ _ (logs .writesHold));
-        writesBelow = logged .writesInside;
-      }
-
 -- the record of slot i of a good area
 pub known : {l : List ℕ} {i : ℕ} {v : SlotRecord} → Good l → i < 8 → v ≡ lay (slotAt (stateIn l) i) → Known l v
 known {l} {i} {v} good below laid =
-    from-logs l (stateIn l .clock) (slotAt (stateIn l) i)
-    (slot-logs-hold (stateIn l .cells) (stateIn l .clock) (slotAt (stateIn l) i) (slot-holds l good i below)) v laid (logged-of l good i below v laid)
+    let logged : Logged l v = logged-of l good i below v laid in
+    record {
+      counted = write-count (slotAt (stateIn l) i) v laid;
+      writesFew = logged .writesMost;
+      unused = unused-writes (slotAt (stateIn l) i) v laid;
+      ascending = logged .ascending;
+      writesBelow = logged .writesInside;
+    }

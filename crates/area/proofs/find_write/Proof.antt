@@ -1,9 +1,11 @@
--- `find_write` meets its contract: the log that is searched where the slot stands is its record's.
+-- `find_write` meets its contract: the log that is searched where the slot stands is its record's, which ascends.
 use borrow.Author.Needs.{needs}
 use Rattle.slot.specs.declared.SlotRecord.{SlotRecord}
 use Rattle.slot.specs.Logs.{writeLog, writeEntry}
 use Rattle.slot.specs.Operations.{writeFound}
+use native.Mathlib.Omega.{arith}
 use Rattle.area.proofs.SlotRead.{read-of-slot}
+use Rattle.area.proofs.Logged.{ascends-of}
 use Rattle.area.proofs.find_write.Statement.{statement}
 use Rattle.area.proofs.find_write.Tie as tie
 
@@ -11,7 +13,10 @@ slot-offset-requires : tie.Need-slot-offset-requires
 slot-offset-requires c κs = search needs
 
 find-write-requires : tie.Need-find-write-requires
-find-write-requires c κs = search needs
+find-write-requires c κs =
+    let start = let c : tie.Start = search in c in
+    let long = start .pre .0 .long in
+    (omega arith, omega arith, ascends-of (start .pre .0) (start .pre .1) (c .slot-offset .ensures))
 
 returns : tie.Need-returns
 returns c =

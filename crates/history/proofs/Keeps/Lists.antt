@@ -116,12 +116,6 @@ module _ {A : Type 0} where
       and-intro _ _ (all-of (R x) l d (λ j h. p 0 (suc j) (omega arith) (omega arith)))
       (pairwise-of R l d (λ i j h b. p (suc i) (suc j) (omega arith) (omega arith)))
 
-  pub pairwise-drop : (R : A → A → Bool) (n : ℕ) (l : List A) → pairwise R l ≡ true → pairwise R (drop n l) ≡ true
-  unfolding pairwise
-  pairwise-drop R zero l p = p
-  pairwise-drop R (suc n) [] p = p
-  pairwise-drop R (suc n) (x ∷ l) p = pairwise-drop R n l (and-right _ _ p)
-
   pub any-none : (f : A → Bool) (l : List A) → all (λ x. not (f x)) l ≡ true → any f l ≡ false
   unfolding all any _or_
   any-none f [] p = refl

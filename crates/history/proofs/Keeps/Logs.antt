@@ -17,8 +17,8 @@ use Rattle.rules.specs.declared.Cell.{Cell}
 use Rattle.slot.specs.Logic.{_and_, _or_, all, any, pairwise}
 use Rattle.slot.specs.Logs.{readEntry, writesCell, markedWritten, putWrite}
 use Rattle.rules.specs.LogsRight.{loggedRight, readsRight, writesRight}
-use Rattle.slot.proofs.Logic.{and-intro, and-left, and-right, false-or, or-false, true-or, or-true, all-map, any-append, pairwise-map}
-use Rattle.history.proofs.Keeps.Lists.{same-or-not, cond-elim, or-neither, or-twice, or-swap, all-imp, all-snoc, pairwise-snoc, pairwise-drop, any-none, any-at, first-none}
+use Rattle.slot.proofs.Logic.{and-intro, and-left, and-right, false-or, or-false, true-or, or-true, all-map, any-append, pairwise-map, pairwise-drop}
+use Rattle.history.proofs.Keeps.Lists.{same-or-not, cond-elim, or-neither, or-twice, or-swap, all-imp, all-snoc, pairwise-snoc, any-none, any-at, first-none}
 
 abbrev pub above : ℕ → WriteEntry → Bool
 above c y = ltb c (y .cell)

@@ -44,8 +44,11 @@ returns c =
     let c : tie.Start = search in
     none-looked (c .args .area .now) (c .args .slot) (c .args .cell) count place refl short empty
 
-find-write-requires : tie.Need-find-write-requires
-find-write-requires c κs = search needs
+with-writes-requires : tie.Need-with-writes-requires
+with-writes-requires c κs = search needs
+
+find-written-requires : tie.Need-find-written-requires
+find-written-requires c κs = search needs
 
 find-read-requires : tie.Need-find-read-requires
 find-read-requires c κs = search needs
@@ -53,20 +56,17 @@ find-read-requires c κs = search needs
 in-either-requires : tie.Need-in-either-requires
 in-either-requires c κs = search needs
 
-with-writes-requires : tie.Need-with-writes-requires
-with-writes-requires c κs = search needs
-
 returns-2 : tie.Need-returns-2
 returns-2 c =
-    let own = c .with-writes .ensures in
-    let c : tie.After-in-either = search in let logged = c .in-either .ensures in
+    let logged = c .in-either .ensures in
     let c : tie.After-find-read = search in let read = c .find-read .ensures in
-    let c : tie.After-find-write = search in let written = c .find-write .ensures in
+    let c : tie.After-find-written = search in let written = c .find-written .ensures in
+    let c : tie.After-with-writes = search in let own = c .with-writes .ensures in
     let c : tie.Else1 = search in let long = c .if1 .left in
     let c : tie.After-index = search in let place = c .index .ensures in
     let c : tie.After-byte = search in let count = c .byte .ensures in
     let c : tie.Start = search in
-    looked (c .args .area .now) (c .args .slot) (c .args .cell) count place refl long written read logged own
+    looked (c .args .area .now) (c .args .slot) (c .args .cell) count place refl long own written read logged
 
 pub look-spec : {M : Type 1} → statement M
 look-spec =
@@ -83,8 +83,8 @@ look-spec =
     add-if1
     empty-requires
     returns
-    find-write-requires
+    with-writes-requires
+    find-written-requires
     find-read-requires
     in-either-requires
-    with-writes-requires
     returns-2)
