@@ -13,6 +13,12 @@ pub(crate) const COUNTED: usize = SOUGHT.len() + LOOKED.len();
 /// where the log is full.
 const SEEKING: [Step; 3] = [Step::Read, Step::Write, Step::Update];
 
+/// What a place is called, and whether a cell is sought there.
+type Place = (&'static str, fn(&Sought) -> bool);
+
+/// What is counted of ignores, and whether one is such.
+type Order = (&'static str, fn(&Looked) -> bool);
+
 /// A write log's cells, and one that is looked for among them.
 struct Sought<'a> {
     cells: &'a [u8],
@@ -49,14 +55,14 @@ impl Sought<'_> {
     }
 }
 
-/// Where the cell is sought in a log of several entries.
-const SOUGHT: [(&str, fn(&Sought) -> bool); 10] = [
+/// Where a cell may be sought in a log of several entries.
+const SOUGHT: [Place; 10] = [
     ("below several written cells", |sought| sought.is_below()),
     ("in a gap of several written cells", |sought| sought.is_in_a_gap()),
     ("above several written cells", |sought| sought.is_above()),
     ("the lowest of several written cells", |sought| sought.is_first()),
     ("the highest of several written cells", |sought| sought.is_last()),
-    ("between the lowest and the highest written cell", |sought| {
+    ("another of several written cells", |sought| {
         sought.is_entry() && !sought.is_first() && !sought.is_last()
     }),
     ("below a full log", |sought| sought.is_full() && sought.is_below()),
@@ -79,8 +85,8 @@ impl Looked<'_> {
     }
 }
 
-/// How the marked and the written cells of an ignore lie.
-const LOOKED: [(&str, fn(&Looked) -> bool); 3] = [
+/// How several marked and several written cells may lie.
+const LOOKED: [Order; 3] = [
     ("ignores, done, a written cell above all of several marked ones", |looked| {
         looked.code == 0 && looked.some_written_is_above()
     }),

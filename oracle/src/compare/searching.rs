@@ -14,8 +14,8 @@ const ALL_CELLS: u8 = CELLS_AT_MOST as u8;
 const MARKED: [[u8; 3]; 6] =
     [[10, 20, 40], [10, 40, 20], [20, 10, 40], [20, 40, 10], [40, 10, 20], [40, 20, 10]];
 
-/// Logs without an entry, with one, two, 15 and 16, with gaps between them and
-/// without, up to the last cell and from the first one; then marks.
+/// Logs of 0, 1, 2, 8, 15 and 16 entries, full ones with gaps and without, from
+/// the first cell on and up to the last one; then marks in every order.
 pub(super) fn sheets_that_search() -> Vec<Case> {
     let every_third = |count: u8| (0..count).map(|place| 3 + 3 * place).collect();
     let logs: [Vec<u8>; 9] = [

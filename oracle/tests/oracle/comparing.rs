@@ -243,6 +243,7 @@ fn every_wrong_search_is_caught() {
 
 fn caught_at_the_edges((name, wrong): &(&str, StepOnBytes)) {
     let failure = compared_run(*wrong, 0).expect_err(name);
+    println!("{name}: {}", failure.case.name);
     let is_edge = edge_sheets().iter().any(|case| case.name == failure.case.name);
     assert!(is_edge, "{name}: {}", failure.case.name);
 }

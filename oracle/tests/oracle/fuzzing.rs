@@ -118,7 +118,7 @@ pub const SEARCHED: [&str; 13] = [
     "sought above several written cells,",
     "sought the lowest of several written cells,",
     "sought the highest of several written cells,",
-    "sought between the lowest and the highest written cell,",
+    "sought another of several written cells,",
     "sought below a full log,",
     "sought in a gap of a full log,",
     "sought above a full log,",

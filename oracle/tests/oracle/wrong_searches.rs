@@ -191,10 +191,10 @@ wrong_looks! {
             seen_up_to(marked.last(), marked, written)
         };
         "ends above all that was marked but the first", |marked, written| {
-            seen_up_to(marked.iter().skip(1).max(), marked, written)
+            seen_up_to(marked.iter().skip(1).max().or(marked.first()), marked, written)
         };
         "ends above all that was marked but the last", |marked, written| {
-            seen_up_to(marked.iter().rev().skip(1).max(), marked, written)
+            seen_up_to(marked.iter().rev().skip(1).max().or(marked.last()), marked, written)
         };
         "ends at the highest marked cell", |marked, written| {
             let highest = marked.iter().max();
@@ -216,10 +216,12 @@ wrong_looks! {
         };
     seeing_too_much:
         "takes the end for a marked cell", |marked, written| {
-            !marked.is_empty() && written.last() > marked.iter().max()
+            let highest = marked.iter().max();
+            let end = highest.is_some() && written.last() > highest;
+            end || seen_up_to(highest, marked, written)
         };
         "takes a cell below the highest marked one for marked", |marked, written| {
-            !marked.is_empty() && written.first().is_some_and(|cell| Some(cell) <= marked.iter().max())
+            written.first().is_some_and(|lowest| Some(lowest) <= marked.iter().max())
         };
 }
 
