@@ -23,6 +23,11 @@ pub enum Tasks {
         /// Slots 1 to this are in use.
         slots: u8,
     },
+    /// They write other cells than they read.
+    Apart {
+        /// Slots 1 to this are in use.
+        slots: u8,
+    },
 }
 
 impl Random {
@@ -35,11 +40,11 @@ impl Random {
         }
     }
 
-    /// Values for so many cells; for counting up and for filling logs, wholes.
+    /// Values for so many cells; but for likely steps, wholes.
     pub fn values_for(&mut self, tasks: Tasks, count: usize) -> Vec<Value> {
         match tasks {
             Tasks::Any(_) => self.values(count),
-            Tasks::CountUp { .. } | Tasks::FillLogs { .. } => {
+            Tasks::CountUp { .. } | Tasks::FillLogs { .. } | Tasks::Apart { .. } => {
                 (0..count).map(|_| self.value(Kind::Whole)).collect()
             }
         }
@@ -51,6 +56,7 @@ impl Random {
             Tasks::Any(habit) => self.likely_call(machine, habit),
             Tasks::CountUp { slots } => self.counting_call(machine, slots),
             Tasks::FillLogs { slots } => self.filling_call(machine, slots),
+            Tasks::Apart { slots } => self.call_apart(machine, slots),
         }
     }
 
@@ -111,11 +117,13 @@ fn counted_up(own: &Transaction, cell: u8) -> Option<Write> {
     }
 }
 
-fn bare(step: Step, slot: u8) -> Call {
+/// A call of a step that needs its slot alone.
+pub(crate) fn bare(step: Step, slot: u8) -> Call {
     Call { step: step.number(), slot, ..Call::default() }
 }
 
-fn bringing(step: Step, slot: u8, entry: Write) -> Call {
+/// A call of the step with the cell and the value of an entry.
+pub(crate) fn bringing(step: Step, slot: u8, entry: Write) -> Call {
     let (kind, word) = (entry.value.kind().number(), entry.value.word());
     Call { step: step.number(), slot, cell: entry.cell, kind, word }
 }

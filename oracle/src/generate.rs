@@ -222,9 +222,19 @@ impl Random {
 
     /// Entries for some cells in any order, each cell at most once.
     pub(crate) fn logged<T>(&mut self, machine: &Machine, entry: fn(u8, Value) -> T) -> Vec<T> {
-        let mut left: Vec<u8> = (0..machine.cells.len() as u8).collect();
-        let most = left.len().min(Transaction::LOG_ROOM) as u64;
+        let most = machine.cells.len().min(Transaction::LOG_ROOM) as u64;
         let count = if self.one_in(8) { most } else { self.up_to(most) };
+        self.entries(machine, count, entry)
+    }
+
+    /// Entries for so many cells, which there have to be.
+    pub(crate) fn entries<T>(
+        &mut self,
+        machine: &Machine,
+        count: u64,
+        entry: fn(u8, Value) -> T,
+    ) -> Vec<T> {
+        let mut left: Vec<u8> = (0..machine.cells.len() as u8).collect();
         let mut entries = Vec::new();
         for _ in 0..count {
             let cell = left.swap_remove(self.place(left.len()));
@@ -240,7 +250,7 @@ impl Random {
         own.phase = Phase::Locking { taken };
     }
 
-    fn set_twilight(&mut self, own: &mut Transaction, machine: &Machine) {
+    pub(crate) fn set_twilight(&mut self, own: &mut Transaction, machine: &Machine) {
         let Some(stamp) = self.commit_stamp(own, machine) else {
             return;
         };

@@ -57,8 +57,7 @@ impl Ignores {
 
     fn note_refused(&mut self, own: &Transaction) {
         let faults: Vec<u8> = own.marked_written().collect();
-        let marked = own.reads.iter().filter(|read| read.marked).count();
-        let ([cell], 2..) = (&faults[..], marked) else {
+        let ([cell], 2..) = (&faults[..], own.marked().count()) else {
             return;
         };
         self.one_of_several += 1;

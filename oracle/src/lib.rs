@@ -42,12 +42,14 @@ pub mod value;
 pub mod wear;
 pub mod wellformed;
 
+mod apart;
 mod bytes;
 mod counts;
 mod filling;
 mod ignores;
 mod obstacles;
 mod record;
+mod searches;
 mod steps;
 mod wear_set;
 

@@ -104,10 +104,14 @@ impl Transaction {
         self.reads.iter().any(|read| read.marked)
     }
 
-    /// The marked cells that are also in the write log, in read-log order.
+    /// The marked cells, in read-log order.
+    pub fn marked(&self) -> impl Iterator<Item = u8> + '_ {
+        self.reads.iter().filter(|read| read.marked).map(|read| read.cell)
+    }
+
+    /// Those of them that are also in the write log.
     pub fn marked_written(&self) -> impl Iterator<Item = u8> + '_ {
-        let marked = self.reads.iter().filter(|read| read.marked).map(|read| read.cell);
-        marked.filter(|cell| self.write_of(*cell).is_some())
+        self.marked().filter(|cell| self.write_of(*cell).is_some())
     }
 
     /// Whether some marked cell is also in the write log.

@@ -3,7 +3,10 @@
 //!
 //! One slot, the subject, makes the step. Of the others, slots 1 to 3 hold the
 //! cells from 16 on, in twilight, publishing and locking, and slots 4 to 7 are
-//! open. What the flag costs is seen where the others all have it set.
+//! open. What the flag costs is seen where the others all have it set, and how
+//! long a search of the write log takes where they are all open.
+
+use std::ops::Range;
 
 use oracle::machine::{CELLS_AT_MOST, SLOTS};
 use oracle::wear::GROUPS_AT_MOST;
@@ -15,7 +18,7 @@ use crate::stage::{usual_values, Stage, HELD, STALE, SUBJECT};
 /// An area and the step to be made on it.
 pub struct Case {
     /// The row that it belongs to: the step's name, or one of its own.
-    pub row: &'static str,
+    pub row: String,
     /// The area before the step.
     pub area: Vec<u8>,
     /// The step.
@@ -37,8 +40,22 @@ pub struct WearCase {
 /// The row of the area that takes most of a check.
 pub const ALL_FLAGGED: &str = "no such step, 8 slots with the flag";
 
+/// The cells of a full write log, with room below, between and above.
+const WRITTEN: [Range<u8>; 2] = [6..14, 17..25];
+
+/// Where a cell stands in that log. These are all of one kind, so that the place
+/// alone makes a difference.
+const SOUGHT: [(&str, u8); 5] = [
+    ("cell below", 0),
+    ("cell among", 15),
+    ("cell above", 63),
+    ("the first entry", 6),
+    ("the last entry", 24),
+];
+
 /// For each step a case or two in which it is done, and one in which it is
 /// refused as late as it can be; for each cause why a cell can't be read, one.
+/// Then those with a row of their own.
 pub fn all() -> Option<Vec<Case>> {
     let idle = Stage::set(0..0)?;
     let mut cases = before_locking(&idle, &Stage::set(0..STALE)?);
@@ -50,6 +67,9 @@ pub fn all() -> Option<Vec<Case>> {
     cases.extend(whatever_the_slot(&idle));
     cases.extend(with_marks(&entered, &Stage::set(HELD..HELD + 16)?.entered()));
     cases.extend(with_flags(&Stage::among_flags()?)?);
+    cases.extend(in_a_full_log(&Stage::among_open(32..47, 0..0)?));
+    let (marked, unmarked) = (Stage::among_open(0..16, 0..16)?, Stage::among_open(0..16, 0..0)?);
+    cases.extend(with_marks_below(&marked, &unmarked));
     Some(cases)
 }
 
@@ -172,15 +192,16 @@ fn after_twilight(may_ignore: &Stage) -> Vec<Case> {
 fn whatever_the_slot(idle: &Stage) -> Vec<Case> {
     let area = idle.0.pack();
     let begin = Call { step: Begin.number(), slot: SUBJECT, ..Call::default() };
+    let no_such_slot = Call { slot: 9, ..begin };
     let slots_at = 14 + 14 * CELLS_AT_MOST;
     let mut cases = vec![
         idle.no_such_step("no such step"),
-        Case { row: Begin.name(), area: area.clone(), call: Call { slot: 9, ..begin }, code: 3 },
+        Case { row: Begin.name().into(), area: area.clone(), call: no_such_slot, code: 3 },
     ];
     for last in [slots_at - 8, area.len() - 1] {
         let mut area = area.clone();
         area[last] = 0xff;
-        cases.push(Case { row: Begin.name(), area, call: begin, code: 1 });
+        cases.push(Case { row: Begin.name().into(), area, call: begin, code: 1 });
     }
     cases
 }
@@ -209,20 +230,50 @@ fn with_flags(subject: &Stage) -> Option<Vec<Case>> {
     })
 }
 
+/// What is not in the log is read from the shared cell, and is the last read
+/// that there is room for; to write or to update it is refused.
+fn in_a_full_log(begun: &Stage) -> Vec<Case> {
+    let open = WRITTEN.into_iter().fold(begun.clone(), |stage, cells| stage.each(Write, cells));
+    let entered = open.with_locks().then(Enter);
+    let mut cases = Vec::new();
+    for (step, stage, if_missing) in [(Read, &open, 0), (Write, &open, 9), (Update, &entered, 8)] {
+        for (place, cell) in SOUGHT {
+            let is_entry = WRITTEN.iter().any(|cells| cells.contains(&cell));
+            let code = if is_entry { 0 } else { if_missing };
+            let row = format!("{}, full log: {place}", step.name());
+            cases.push(stage.case(step, cell, code).in_row(row));
+        }
+    }
+    cases
+}
+
+/// Full logs: all that was read is marked and below what is written, or nothing
+/// is marked.
+fn with_marks_below(marked: &Stage, unmarked: &Stage) -> Vec<Case> {
+    let ignore = |stage: &Stage, row| {
+        let entered = stage.each(Write, 48..64).with_locks().then(Enter);
+        entered.case(Ignore, 0, 0).in_row(row)
+    };
+    vec![
+        ignore(marked, "ignore, full logs: all marked below what is written"),
+        ignore(unmarked, "ignore, no mark, 16 written"),
+    ]
+}
+
 impl Stage {
     pub fn case(&self, step: Step, cell: u8, code: u8) -> Case {
         let call = self.call(SUBJECT, step, cell);
-        Case { row: step.name(), area: self.0.pack(), call, code }
+        Case { row: step.name().into(), area: self.0.pack(), call, code }
     }
 
-    pub fn no_such_step(&self, row: &'static str) -> Case {
+    pub fn no_such_step(&self, row: &str) -> Case {
         let call = Call { step: 0, slot: SUBJECT, ..Call::default() };
-        Case { row, area: self.0.pack(), call, code: 2 }
+        Case { row: row.into(), area: self.0.pack(), call, code: 2 }
     }
 }
 
 impl Case {
-    fn in_row(self, row: &'static str) -> Case {
-        Case { row, ..self }
+    fn in_row(self, row: impl Into<String>) -> Case {
+        Case { row: row.into(), ..self }
     }
 }

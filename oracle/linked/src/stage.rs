@@ -43,6 +43,15 @@ impl Stage {
         Some(begun.each(Read, 0..STALE).each(Read, held).among_others())
     }
 
+    /// The subject has begun and read cells, slot 7 has published some, and all
+    /// slots but the subject are open and hold nothing.
+    pub fn among_open(early_reads: Range<u8>, newer: Range<u8>) -> Option<Stage> {
+        let mut stage = Stage::fresh(&usual_values())?.then(Begin).each(Read, early_reads);
+        stage.renew(7, newer);
+        (1..SUBJECT).for_each(|slot| stage.fill_logs(slot, 16..32));
+        Some(stage)
+    }
+
     /// All slots but the subject have the flag set and publish, and the subject
     /// has read 16 cells that are newer. Slot 1 makes them so first. What slot 1
     /// itself then reads, slot 6 publishes or holds.
@@ -145,7 +154,12 @@ impl Stage {
 
     /// The subject has written to all cells that are left to it, and locked.
     pub fn locked(&self) -> Stage {
-        self.each(Write, 0..16).then(Close).times(Lock, 16)
+        self.each(Write, 0..16).with_locks()
+    }
+
+    /// The subject, with a full write log, has taken all its cells.
+    pub fn with_locks(&self) -> Stage {
+        self.then(Close).times(Lock, 16)
     }
 
     pub fn entered(&self) -> Stage {

@@ -20,6 +20,7 @@ pub fn random_sheet(seed: u64, number: u64) -> Case {
     let sheet = match number % ROUND {
         0 => busy_sheet(&mut random),
         10 | 30 | 50 | 70 => wide_sheet(&mut random),
+        20 | 40 | 60 => sheet_apart(&mut random),
         _ => some_sheet(&mut random),
     };
     Case::new(format!("random sheet {number} of seed {seed}"), encoded(sheet))
@@ -83,7 +84,14 @@ fn busy_sheet(random: &mut Random) -> Option<Sheet> {
 fn wide_sheet(random: &mut Random) -> Option<Sheet> {
     let n = random.pick(&[17, 20, 64])?;
     let tasks = Tasks::FillLogs { slots: random.between(1, 3) as u8 };
-    sheet_with_a_commit(random, n, tasks, 400)
+    sheet_with_a_commit(random, n, tasks, 500)
+}
+
+/// All that is marked is below what is written, or above it.
+fn sheet_apart(random: &mut Random) -> Option<Sheet> {
+    let n = random.pick(&[4, 6, 10, 20])?;
+    let tasks = Tasks::Apart { slots: random.between(2, 4) as u8 };
+    sheet_with_a_commit(random, n, tasks, 300)
 }
 
 /// What a fresh machine refuses leaves it fresh for the next step.

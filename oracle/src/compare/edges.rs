@@ -3,6 +3,7 @@
 use super::case::{Case, BEGIN, CELL};
 use super::ignoring::sheets_that_ignore;
 use super::in_the_way::sheets_with_a_holder;
+use super::searching::sheets_that_search;
 use super::traced::sheets_to_trace;
 use crate::binary::STEPS_AT_MOST;
 use crate::machine::CELLS_AT_MOST;
@@ -12,8 +13,8 @@ use crate::text;
 const S_TEXT: &str = include_str!("../../../examples/sheets/s.txt");
 
 /// Good sheets: none and most of everything, every slot in the way, marks that
-/// may be ignored and that may not, every effect, and every byte in every place
-/// of a step.
+/// may be ignored and that may not, every place in a write log, every effect, and
+/// every byte in every place of a step.
 pub fn edge_sheets() -> Vec<Case> {
     let numbers_of_cells = 1..=CELLS_AT_MOST;
     let mut cases: Vec<Case> = numbers_of_cells
@@ -25,6 +26,7 @@ pub fn edge_sheets() -> Vec<Case> {
     cases.push(reloads());
     cases.extend(sheets_with_a_holder());
     cases.extend(sheets_that_ignore());
+    cases.extend(sheets_that_search());
     cases.extend(sheets_to_trace());
     for place in 0..4 {
         let mut steps = Vec::new();

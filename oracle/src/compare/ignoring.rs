@@ -27,16 +27,22 @@ pub(super) fn sheets_that_ignore() -> Vec<Case> {
     cases
 }
 
-/// A slot reads and writes, and another one publishes the stale cells before it
-/// enters. It asks of what it has read, ignores twice, and finishes; then the
-/// same with a reload behind, and all written anew.
 fn ignoring(name: &str, reads: &[u8], writes: &[u8], stale: &[u8]) -> Case {
     let mut steps = Steps::default();
     two_tries(&mut steps, (1, 2), reads, writes, stale);
     steps.on_cells(name, CELLS_AT_MOST)
 }
 
-fn two_tries(steps: &mut Steps, slots: (u8, u8), reads: &[u8], writes: &[u8], stale: &[u8]) {
+/// A slot reads and writes, and another one publishes the stale cells before it
+/// enters. It asks of what it has read, ignores twice, and finishes; then the
+/// same with a reload behind, and all written anew.
+pub(super) fn two_tries(
+    steps: &mut Steps,
+    slots: (u8, u8),
+    reads: &[u8],
+    writes: &[u8],
+    stale: &[u8],
+) {
     let (slot, other) = slots;
     for repairs in [false, true] {
         steps.add(Begin, slot, 0);

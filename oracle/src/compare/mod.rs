@@ -12,6 +12,7 @@ mod ignoring;
 mod in_the_way;
 mod process;
 mod program;
+mod searching;
 mod steps;
 mod tally;
 mod traced;

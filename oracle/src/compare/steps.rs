@@ -11,8 +11,13 @@ pub(super) struct Steps {
 
 impl Steps {
     pub fn add(&mut self, step: Step, slot: u8, cell: u8) {
+        self.bring(step, slot, cell, 0);
+    }
+
+    /// With a word, for the steps that use one. It is of one byte.
+    pub fn bring(&mut self, step: Step, slot: u8, cell: u8, word: u8) {
         let kind = if step.uses_value() { 2 } else { 0 };
-        self.bytes.extend([step.number(), slot, cell, kind, 0, 0, 0, 0]);
+        self.bytes.extend([step.number(), slot, cell, kind, 0, 0, 0, word]);
     }
 
     /// The same step on each of these cells.

@@ -9,6 +9,7 @@ use crate::counts::{self, Count};
 use crate::ignores::{self, Ignores, Repairs};
 use crate::machine::{Machine, CELLS_AT_MOST};
 use crate::obstacles::{self, Obstacles};
+use crate::searches::{self, Searches};
 use crate::trace::Tracer;
 
 /// The least counts are those of so many random sheets, and of more in
@@ -20,6 +21,10 @@ const OBSTACLES: [u64; obstacles::COUNTED] = [4000, 200, 12, 12, 30, 90, 150, 20
 
 /// The least counts of ignores and of what comes of them.
 const IGNORES: [u64; ignores::COUNTED] = [350, 60, 25, 18, 1, 2, 120, 50, 450, 110, 30];
+
+/// The least counts of searches of a write log.
+const SEARCHES: [u64; searches::COUNTED] =
+    [30, 100, 70, 150, 135, 240, 22, 80, 60, 540, 38, 11, 16];
 
 /// Counts of what was compared and found alike.
 #[derive(Clone, Debug, Default)]
@@ -33,6 +38,7 @@ pub struct Tally {
     marks: u64,
     obstacles: Obstacles,
     ignores: Ignores,
+    searches: Searches,
     effects: Effects,
 }
 
@@ -63,10 +69,14 @@ impl Tally {
     }
 
     fn note_step(&mut self, tracer: &mut Tracer, call: Call, repairs: &mut Repairs) {
-        let before = Ignores::is_about(call.step).then(|| tracer.machine().clone());
+        let is_noted = Ignores::is_about(call.step) || Searches::is_about(call.step);
+        let before = is_noted.then(|| tracer.machine().clone());
         let (reply, effect) = tracer.step(call);
         let machine = tracer.machine();
-        before.iter().for_each(|before| self.ignores.note(before, call, reply.code()));
+        if let Some(before) = &before {
+            self.ignores.note(before, call, reply.code());
+            self.searches.note(before, call, reply.code());
+        }
         if repairs.note(machine, call, reply) {
             self.ignores.note_repair();
         }
@@ -112,6 +122,7 @@ impl Tally {
         }
         counts.extend(self.obstacles.counts(OBSTACLES));
         counts.extend(self.ignores.counts(IGNORES));
+        counts.extend(self.searches.counts(SEARCHES));
         counts.extend(self.effects.counts());
         for step in Step::ALL {
             let count = self.done[usize::from(step.number())];

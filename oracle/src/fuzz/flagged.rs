@@ -66,6 +66,15 @@ impl Round<'_> {
     }
 }
 
+/// No slot is left that holds a cell.
+pub(super) fn end_holders(machine: &mut Machine) {
+    for slot in &mut machine.slots {
+        if slot.as_ref().is_some_and(|other| other.held().next().is_some()) {
+            *slot = None;
+        }
+    }
+}
+
 fn ignore(place: usize) -> Call {
     Call { step: Step::Ignore.number(), slot: place as u8 + 1, ..Call::default() }
 }
@@ -115,11 +124,7 @@ impl Random {
     /// Half of the cells are read and half are written, or 16. Who holds a cell
     /// has to go.
     fn fill_logs_apart(&mut self, own: &mut Transaction, machine: &mut Machine) {
-        for slot in &mut machine.slots {
-            if slot.as_ref().is_some_and(|other| other.held().next().is_some()) {
-                *slot = None;
-            }
-        }
+        end_holders(machine);
         let mut left: Vec<u8> = (0..machine.cells.len() as u8).collect();
         for _ in 0..(left.len() / 2).min(Transaction::LOG_ROOM) {
             let [read, written] = [(); 2].map(|()| left.swap_remove(self.place(left.len())));

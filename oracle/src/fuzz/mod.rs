@@ -9,6 +9,7 @@ mod flagged;
 mod guarded;
 mod levelling;
 mod rounds;
+mod searching;
 mod sets;
 mod spoil;
 mod tally;

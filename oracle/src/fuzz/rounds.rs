@@ -24,6 +24,7 @@ pub enum Sort {
     Junk,
     EveryStepAndSlot,
     Flagged,
+    CellsSought,
     LayOut,
     WearWalk,
     WearAnyArea,
@@ -31,7 +32,7 @@ pub enum Sort {
 }
 
 impl Sort {
-    const ALL: [Sort; 11] = [
+    const ALL: [Sort; 12] = [
         Sort::Walk,
         Sort::LastStamps,
         Sort::AnyArea,
@@ -39,6 +40,7 @@ impl Sort {
         Sort::Junk,
         Sort::EveryStepAndSlot,
         Sort::Flagged,
+        Sort::CellsSought,
         Sort::LayOut,
         Sort::WearWalk,
         Sort::WearAnyArea,
@@ -58,6 +60,7 @@ impl Sort {
             Sort::Junk => "junk of any length",
             Sort::EveryStepAndSlot => "every step and slot on one area",
             Sort::Flagged => "slots with marks and with the flag, and tasks that count up",
+            Sort::CellsSought => "cells looked for in write logs",
             Sort::LayOut => "lay-outs",
             Sort::WearWalk => "tasks that level, from a fresh area",
             Sort::WearAnyArea => "wear tasks on any well-formed areas",
@@ -92,6 +95,7 @@ impl Round<'_> {
                 let n = self.random.between(1, 4) as usize;
                 self.walk_of(Tasks::CountUp { slots: 5 }, n, 0, 150)
             }
+            Sort::CellsSought => (0..12).try_for_each(|_| self.cells_sought()),
             Sort::LayOut => self.lay_outs(),
             Sort::WearWalk => self.tasks_that_level(),
             Sort::WearAnyArea => (0..35).try_for_each(|_| self.level_on_any_area()),

@@ -9,6 +9,7 @@ use crate::counts::{self, Count};
 use crate::ignores::{self, Ignores};
 use crate::machine::Machine;
 use crate::obstacles::{self, Obstacles};
+use crate::searches::{self, Searches};
 use crate::wellformed::{sentences, MARK_REQUIRES_FLAG, SENTENCE_COUNT};
 
 /// The least counts are those of so many calls; others are in proportion.
@@ -19,6 +20,10 @@ const OBSTACLES: [u64; obstacles::COUNTED] = [1500, 200, 70, 70, 100, 150, 5, 60
 
 /// The least counts of ignores and of what comes of them.
 const IGNORES: [u64; ignores::COUNTED] = [1000, 400, 60, 60, 70, 60, 400, 1000, 180, 80, 12];
+
+/// The least counts of searches of a write log.
+const SEARCHES: [u64; searches::COUNTED] =
+    [110, 210, 110, 400, 420, 260, 110, 180, 95, 970, 660, 160, 28];
 
 /// The least counts of areas that lose an update, in the order of their names.
 const LOST: [u64; Lost::ALL.len()] = [900, 600, 300];
@@ -35,6 +40,7 @@ pub struct Tally {
     marks: u64,
     obstacles: Obstacles,
     pub(super) ignores: Ignores,
+    searches: Searches,
     lay_outs: [u64; 7],
     pub(super) wear: WearTally,
     /// Areas with some bytes changed that are well formed all the same.
@@ -57,13 +63,13 @@ impl Tally {
     pub(super) fn note_step(&mut self, before: &[u8], call: Call, number: u64) {
         let code = (number >> 40) as u8;
         self.codes[usize::from(code)] += 1;
-        if Obstacles::is_about(code) {
-            let machine = Machine::unpack(before);
-            machine.iter().for_each(|machine| self.obstacles.note(machine, call, number));
-        }
-        if Ignores::is_about(call.step) {
-            let machine = Machine::unpack(before);
-            machine.iter().for_each(|machine| self.ignores.note(machine, call, code));
+        let is_noted = Obstacles::is_about(code)
+            || Ignores::is_about(call.step)
+            || Searches::is_about(call.step);
+        if let Some(machine) = Some(before).filter(|_| is_noted).and_then(Machine::unpack) {
+            self.obstacles.note(&machine, call, number);
+            self.ignores.note(&machine, call, code);
+            self.searches.note(&machine, call, code);
         }
         if code != 0 {
             return;
@@ -128,6 +134,7 @@ impl Tally {
         counts.extend(named.map(|(name, count, least)| (name.to_string(), count, least)));
         counts.extend(self.obstacles.counts(OBSTACLES));
         counts.extend(self.ignores.counts(IGNORES));
+        counts.extend(self.searches.counts(SEARCHES));
         for ((lost, count), least) in Lost::ALL.into_iter().zip(self.lost).zip(LOST) {
             counts.push((format!("an update lost, {}", lost.name()), count, least));
         }

@@ -201,8 +201,10 @@ impl Turn<'_> {
         self.reads().iter().position(|read| read[0] == self.call.cell)
     }
 
+    /// The log ascends, so the search ends at the first cell that is not smaller.
     fn place_in_writes(&self) -> Option<usize> {
-        self.writes().iter().position(|write| write[0] == self.call.cell)
+        let place = self.writes().iter().position(|write| write[0] >= self.call.cell)?;
+        (self.writes()[place][0] == self.call.cell).then_some(place)
     }
 
     fn some_mark(&self) -> bool {

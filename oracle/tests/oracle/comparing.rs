@@ -5,13 +5,14 @@ use oracle::compare::{bad_sheets, compare, cut_sheets, edge_sheets, long_inputs,
 use oracle::compare::{refused_sheets, Case, Ended, Failure, Given, Plan, Program, Stopped, Tally};
 use oracle::{describe, lay_out_on_bytes, BadSheet, Sheet};
 
-use crate::fuzzing::{step, StepOnBytes, IGNORED, IN_THE_WAY, WRONG_STEPS};
+use crate::fuzzing::{step, StepOnBytes, IGNORED, IN_THE_WAY, SEARCHED, WRONG_STEPS};
 use crate::peek::Peek;
 use crate::sheets::s_binary;
 use crate::tracing::{self, traced};
 use crate::wrong_ignores::{STRICT_CHECKS, WRONG_FLAGS, WRONG_IGNORES};
 use crate::wrong_obstacles::WRONG_OBSTACLES;
 use crate::wrong_readers::{is_bad, WRONG_READERS, WRONG_READERS_OF_REALS};
+use crate::wrong_searches::{STRICT_LOOKS, WRONG_LOOKS, WRONG_READS, WRONG_UPDATES, WRONG_WRITES};
 
 /// What is given in place of the right output.
 type Printer = fn(&Case, String) -> Given;
@@ -166,7 +167,7 @@ fn what_is_right_passes_and_every_least_count_is_reached() {
     };
     let tally = compared(Vec::new(), &on_area, 2_000);
     let tally = tally.unwrap_or_else(|failure| panic!("{failure}"));
-    assert!(tally.compared() >= 2_810, "{tally}");
+    assert!(tally.compared() >= 2_825, "{tally}");
     assert_eq!(tally.short(2_000), [""; 0], "{tally}");
 }
 
@@ -175,7 +176,8 @@ fn a_run_that_reaches_little_is_told_so() {
     let tally = compared(Vec::new(), &right, 20).unwrap_or_else(|fail| panic!("{fail}"));
     let short = tally.short(2_000);
     let others = ["commits", "enters that mark", "reloads", "aborts", "random sheets"];
-    for name in IN_THE_WAY.into_iter().chain(IGNORED).chain(others).chain(TRACED) {
+    let logs = IN_THE_WAY.into_iter().chain(IGNORED).chain(SEARCHED);
+    for name in logs.chain(others).chain(TRACED) {
         assert!(short.iter().any(|line| line.starts_with(name)), "{name}: {short:?}");
     }
 }
@@ -232,8 +234,16 @@ fn every_wrong_ignore_is_caught() {
     wrong.for_each(caught_at_the_edges);
 }
 
+/// Likewise.
+#[test]
+fn every_wrong_search_is_caught() {
+    let wrong = [WRONG_READS, WRONG_WRITES, WRONG_UPDATES, WRONG_LOOKS, STRICT_LOOKS];
+    wrong.into_iter().flatten().for_each(caught_at_the_edges);
+}
+
 fn caught_at_the_edges((name, wrong): &(&str, StepOnBytes)) {
     let failure = compared_run(*wrong, 0).expect_err(name);
+    println!("{name}: {}", failure.case.name);
     let is_edge = edge_sheets().iter().any(|case| case.name == failure.case.name);
     assert!(is_edge, "{name}: {}", failure.case.name);
 }

@@ -8,6 +8,8 @@ use crate::slips::{self, Slip, Wear, BAD_SETS_TAKEN, SLIPS};
 use crate::wrong_ignores::{loses_updates_alone, with_lost_marks_hidden};
 use crate::wrong_ignores::{LENIENT_CHECKS, STRICT_CHECKS, WRONG_FLAGS, WRONG_IGNORES};
 use crate::wrong_obstacles::WRONG_OBSTACLES;
+use crate::wrong_searches::{LENIENT_LOOKS, STRICT_LOOKS, WRONG_LOOKS};
+use crate::wrong_searches::{WRONG_READS, WRONG_UPDATES, WRONG_WRITES};
 
 pub type StepOnBytes = fn(&mut [u8], Call) -> u64;
 type LayOut = fn(&mut [u8], &[u8]) -> u64;
@@ -17,8 +19,8 @@ const CALLS: u64 = 250_000;
 
 /// How many sorts of rounds there are, which take turns. The first is of steps
 /// from a fresh area, and the last four are of lay-outs and of the wear task.
-const SORTS: usize = 11;
-const LAY_OUTS: u64 = 7;
+const SORTS: usize = 12;
+const LAY_OUTS: u64 = 8;
 
 const RIGHT: Library = Library { step, lay_out: lay_out_on_bytes, wear: wear_on_bytes };
 
@@ -107,6 +109,23 @@ pub const IGNORED: [&str; 12] = [
     "ignores with a cell in both logs and no mark:",
     "commits with the flag and a cell in both logs:",
     "code 15, then reload, update and commit:",
+];
+
+/// What is told short of a run in which nothing is looked for in a write log.
+pub const SEARCHED: [&str; 13] = [
+    "sought below several written cells,",
+    "sought in a gap of several written cells,",
+    "sought above several written cells,",
+    "sought the lowest of several written cells,",
+    "sought the highest of several written cells,",
+    "sought another of several written cells,",
+    "sought below a full log,",
+    "sought in a gap of a full log,",
+    "sought above a full log,",
+    "sought an entry of a full log,",
+    "ignores, done, a written cell above all of several marked ones:",
+    "code 15, a written cell above all of several marked ones:",
+    "ignores, all of several marked cells above all written ones:",
 ];
 
 /// Those that damaged areas and tasks that level are needed for, too.
@@ -250,13 +269,14 @@ fn a_run_that_reaches_little_is_told_so() {
 
 /// Lay-outs only, so that no slot is ever in another one's way.
 #[test]
-fn a_run_with_no_one_in_the_way_and_nothing_to_ignore_is_told_so() {
+fn a_run_with_no_one_in_the_way_and_nothing_in_the_logs_is_told_so() {
     let mut tally = Tally::default();
     for round in (LAY_OUTS..20_000).step_by(SORTS) {
         one_round(RIGHT, 1, round, &mut tally).unwrap_or_else(|failure| panic!("{failure}"));
     }
     let short = tally.short();
-    for start in IN_THE_WAY.into_iter().chain(IGNORED).chain(IGNORED_BY_SORT) {
+    let short_of = IN_THE_WAY.into_iter().chain(IGNORED).chain(IGNORED_BY_SORT).chain(SEARCHED);
+    for start in short_of {
         assert!(short.iter().any(|line| line.starts_with(start)), "{start} in {short:?}");
     }
 }
@@ -287,10 +307,26 @@ fn every_wrong_ignore_is_caught() {
     }
 }
 
+#[test]
+fn every_wrong_search_is_caught() {
+    for &(name, step) in [WRONG_READS, WRONG_WRITES, WRONG_UPDATES].into_iter().flatten() {
+        let failure = run(Library { step, ..RIGHT }, 50_000).expect_err(name);
+        println!("{name}: round {}", failure.round);
+    }
+}
+
+#[test]
+fn every_wrong_look_at_what_is_written_is_caught() {
+    for &(name, step) in WRONG_LOOKS.iter().chain(STRICT_LOOKS) {
+        let failure = run(Library { step, ..RIGHT }, 50_000).expect_err(name);
+        println!("{name}: round {}", failure.round);
+    }
+}
+
 /// At an area that loses an update, and not by chance at something else.
 #[test]
 fn every_update_that_may_be_lost_is_caught() {
-    for (name, step) in LENIENT_CHECKS {
+    for &(name, step) in LENIENT_CHECKS.iter().chain(LENIENT_LOOKS) {
         let failure = run(Library { step, ..RIGHT }, 50_000).expect_err(name);
         println!("{name}: round {}", failure.round);
         assert!(failure.report.contains("answer: wanted code 1, kind 0"), "{name}: {failure}");

@@ -33,4 +33,5 @@ mod wear_header;
 mod wrong_ignores;
 mod wrong_obstacles;
 mod wrong_readers;
+mod wrong_searches;
 mod wrong_traces;

@@ -7,7 +7,7 @@ use crate::fuzzing::{step, StepOnBytes};
 use crate::peek::{self, Peek};
 
 /// Whether a slot that is in twilight may not ignore, or loses an update.
-type Judge = fn(&Peek, u8) -> bool;
+pub type Judge = fn(&Peek, u8) -> bool;
 
 /// Each ignores wrongly in one way. The area is checked as it should be.
 pub const WRONG_IGNORES: [(&str, StepOnBytes); 24] = [
@@ -179,7 +179,7 @@ fn entered(area: &[u8], call: Call) -> Option<usize> {
 }
 
 /// Ignores unless this judge is against it.
-fn judged(area: &mut [u8], call: Call, refuses: Judge) -> u64 {
+pub fn judged(area: &mut [u8], call: Call, refuses: Judge) -> u64 {
     let Some(at) = entered(area, call) else {
         return step(area, call);
     };
@@ -222,7 +222,8 @@ fn refuses_too(area: &mut [u8], call: Call, number: u8) -> u64 {
     step(area, call)
 }
 
-fn strict(area: &mut [u8], call: Call, loses: Judge) -> u64 {
+/// Takes an area for bad in which some slot is so.
+pub fn strict(area: &mut [u8], call: Call, loses: Judge) -> u64 {
     let is_good = peek::well_formed(area);
     if is_good && (1..=8).any(|slot| loses(&Peek(area), slot)) {
         return 1 << 40;
@@ -239,7 +240,7 @@ pub fn without_the_clause(area: &mut [u8], call: Call) -> u64 {
 /// After the step they are put back, unless the slot has ended or reloaded. Ask
 /// and ignore are about the marks of their slot: there it is the flag alone,
 /// without which a mark is good in twilight.
-fn lenient(area: &mut [u8], call: Call, sees: Judge) -> u64 {
+pub fn lenient(area: &mut [u8], call: Call, sees: Judge) -> u64 {
     if !loses_updates_alone(area) {
         return step(area, call);
     }

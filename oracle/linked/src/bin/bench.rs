@@ -166,7 +166,7 @@ fn sheet_cases() -> Result<Vec<Case>, String> {
     for call in calls {
         let before = area.clone();
         let code = (oracle(&mut area, call) >> 40) as u8;
-        cases.push(Case { row: "a step of a busy sheet", area: before, call, code });
+        cases.push(Case { row: "a step of a busy sheet".into(), area: before, call, code });
     }
     Ok(cases)
 }
