@@ -28,16 +28,16 @@ module _ (width at : ℕ) (l : List ℕ) where
   abbrev pub withWritesAt : SlotRecord
   withWritesAt = withoutReads slotIn
 
+  -- its write log ascends by cell
+  abbrev pub Ascends : Type 0
+  Ascends = pairwise (λ (e f : WriteEntry). ltb (e .cell) (f .cell)) (writeLog slotIn) ≡ true
+
   -- entry k of each log, and the entry of a cell
   abbrev pub readEntryAt : ℕ → ReadEntry
   readEntryAt k = getD (slotIn .reads) k noRead
 
   abbrev pub writeEntryAt : ℕ → WriteEntry
   writeEntryAt k = getD (slotIn .writes) k noWrite
-
-  -- its write log ascends by cell
-  abbrev pub Ascends : Type 0
-  Ascends = pairwise (λ (e f : WriteEntry). ltb (e .cell) (f .cell)) (writeLog slotIn) ≡ true
 
   abbrev pub readFoundAt : ℕ → ReadFound
   readFoundAt cell = readFound (readEntry (readLog slotIn) cell)
