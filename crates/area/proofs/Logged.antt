@@ -13,7 +13,7 @@ use Rattle.slot.specs.Logic.{pairwise}
 use Rattle.slot.specs.Logs.{paddedReads, writeLog}
 use Rattle.slot.proofs.Logic.{and-left, and-right, all-at}
 use Rattle.slot.proofs.Padding.{length-padded}
-use Rattle.packed.specs.Places.{slotIn, Ascends}
+use Rattle.packed.specs.Places.{slotIn}
 use Rattle.rules.specs.Model.{controller}
 use Rattle.rules.specs.State.{Slot, idle, opened, locking, twilight, publishing, readsOf, writesOf, startOf, slotAt}
 use Rattle.rules.specs.LogsRight.{readsRight, writesRight}
@@ -82,9 +82,9 @@ pub logged-of : (l : List ℕ) → Good l → (i : ℕ) → i < 8 → (v : SlotR
 logged-of l good i h v e =
     rw e (logged-laid l (slotAt (stateIn l) i) (slot-logs-hold (stateIn l .cells) (stateIn l .clock) (slotAt (stateIn l) i) (slot-holds l good i h)))
 
--- what is read of it where it stands ascends too
-pub ascends-of : {l : List ℕ} {i at : ℕ} → Good l → i < 8 → at ≡ slotStart l i → Ascends 8 at l
-ascends-of {l} {i} {at} good below place = logged-of l good i below (slotIn 8 at l) (slot-of good below place) .ascending
+-- as it is read where it stands
+pub logged-at : {l : List ℕ} {i at : ℕ} → Good l → i < 8 → at ≡ slotStart l i → Logged l (slotIn 8 at l)
+logged-at {l} {i} {at} good below place = logged-of l good i below (slotIn 8 at l) (slot-of good below place)
 
 -- its read log, of which the slot's fields give the count
 pub record Counted (l : List ℕ) (i n : ℕ) : Type 0 where

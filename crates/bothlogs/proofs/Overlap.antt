@@ -1,4 +1,4 @@
--- The table of marked cells, entry by entry, with a number above which none is marked; and that it does not matter which log is gone through first.
+-- The table of marked cells, entry by entry, with a bound of them; and that it does not matter which log is gone through first.
 use mathlib.Core.Bool.{Bool, true, false}
 use mathlib.Core.List.{List, [], _∷_, _++_}
 use mathlib.Core.Path.{_≡_, refl, sym, _∙_, ap}
@@ -6,7 +6,6 @@ use Prim.Native.Nat.{ℕ, _+_, _<_, _≤_}
 use native.Mathlib.Numerals.{add-one}
 use native.Mathlib.Omega.{arith}
 use borrow.Author.Tests.{eqb-true, eqb-false, ne-eqb, ltb-true}
-use lib.Bits.{bitOr, or-add-and, and-le-l, and-le-r}
 use lib.Dec.{eqb, ltb}
 use lib.ListN.{length, getD, take, set, replicate, length-set, getD-replicate}
 use lib.Seq.{take-suc, getD-set-same, getD-set-other}
@@ -21,23 +20,15 @@ use Rattle.bothlogs.specs.BothLogs.{marksCell, markedTable}
 
 -- ---- the table
 
--- what the table has for each cell, and above what number none is marked, once the first i entries of the array are in
-pub record Tabled (marked : List ℕ) (top : ℕ) (array : List ReadEntry) (i : ℕ) : Type 0 where
+-- what the table has for each cell, and that no cell above the bound is marked, once the first i entries of the array are in
+pub record Tabled (marked : List ℕ) (bound : ℕ) (array : List ReadEntry) (i : ℕ) : Type 0 where
   pub size : length marked ≡ 64
   pub byte : (c : ℕ) → c < 64 → getD marked c 0 ≡ bit (marksCell (take i array) c)
-  pub above : (c : ℕ) → top < c → marksCell (take i array) c ≡ false
+  pub above : (c : ℕ) → bound < c → marksCell (take i array) c ≡ false
 
 pub tabled-start : {marked : List ℕ} (array : List ReadEntry) → marked ≡ replicate 64 0 → Tabled marked 0 array 0
 unfolding marksCell any
 tabled-start array zeros = rw zeros record { size = refl; byte = λ c h. getD-replicate 64 c 0 0 h; above = λ c h. refl }
-
--- a number put together of two is below neither
-pub covers : (a b : ℕ) → (a ≤ bitOr a b) × (b ≤ bitOr a b)
-covers a b =
-    let both = or-add-and a b in
-    let left = and-le-l a b in
-    let right = and-le-r a b in
-    (omega arith, omega arith)
 
 -- one entry more
 next-marks : (array : List ReadEntry) (i : ℕ) {e : ReadEntry} → i < length array → e ≡ getD array i noRead → (c : ℕ)
@@ -48,14 +39,14 @@ next-marks array i {e} h there c =
     (ap (λ (n : ℕ). take n array) (add-one i) ∙ take-suc array i noRead h ∙ ap (λ (f : ReadEntry). take i array ++ (f ∷ [])) (sym there))
     ∙ any-snoc (λ (f : ReadEntry). f .mark and eqb c (f .cell)) (take i array) e
 
-module _ (array : List ReadEntry) (i : ℕ) (inside : i < length array) {marked : List ℕ} {top : ℕ} (so-far : Tabled marked top array i) {e : ReadEntry}
+module _ (array : List ReadEntry) (i : ℕ) (inside : i < length array) {marked : List ℕ} {bound : ℕ} (so-far : Tabled marked bound array i) {e : ReadEntry}
     (there : e ≡ getD array i noRead) where
   -- an entry without a mark changes nothing
   no-more : e .mark ≡ false → (c : ℕ) → marksCell (take (i + 1) array) c ≡ marksCell (take i array) c
   unfolding _and_
   no-more off c = next-marks array i inside there c ∙ rw off (or-false (marksCell (take i array) c))
 
-  pub tabled-unmarked : e .mark ≡ false → Tabled marked top array (i + 1)
+  pub tabled-unmarked : e .mark ≡ false → Tabled marked bound array (i + 1)
   tabled-unmarked off =
       record {
         size = so-far .size;
@@ -63,12 +54,12 @@ module _ (array : List ReadEntry) (i : ℕ) (inside : i < length array) {marked 
         above = λ c h. no-more off c ∙ so-far .above c h;
       }
 
-  -- one with a mark puts its cell, and a new top is below neither it nor the old one
+  -- one with a mark puts its cell, and a new bound is below neither it nor the old one
   one-more : e .mark ≡ true → (c : ℕ) → marksCell (take (i + 1) array) c ≡ (marksCell (take i array) c or eqb c (e .cell))
   unfolding _and_
   one-more on c = next-marks array i inside there c ∙ rw on
 
-  pub tabled-marked : {next : ℕ} → e .mark ≡ true → top ≤ next → e .cell ≤ next → Tabled (set marked (e .cell) 1) next array (i + 1)
+  pub tabled-marked : {next : ℕ} → e .mark ≡ true → bound ≤ next → e .cell ≤ next → Tabled (set marked (e .cell) 1) next array (i + 1)
   tabled-marked on high higher =
       record {
         size = simp length-set (so-far .size);
@@ -84,8 +75,8 @@ module _ (array : List ReadEntry) (i : ℕ) (inside : i < length array) {marked 
       by c h false s = getD-set-other marked (e .cell) c 1 0 (eqb-false _ _ s) ∙ so-far .byte c h ∙ rw (s, or-false)
 
 -- all entries are in
-pub tabled-whole : {marked : List ℕ} {top : ℕ} {array : List ReadEntry} {n : ℕ} → Tabled marked top array n → marked ≡ markedTable (take n array)
-tabled-whole {marked} {top} {array} {n} done =
+pub tabled-whole : {marked : List ℕ} {bound : ℕ} {array : List ReadEntry} {n : ℕ} → Tabled marked bound array n → marked ≡ markedTable (take n array)
+tabled-whole {marked} {bound} {array} {n} done =
     sym (tab-of 64 marked 0 (done .size)) ∙ tab-ext 64 (λ c. getD marked c 0) (λ c. bit (marksCell (take n array) c)) (done .byte)
 
 -- what the table tells of a cell
@@ -107,10 +98,10 @@ module _ (reads : List ReadEntry) {marked : List ℕ} (table : marked ≡ marked
       by true p = absurd (p refl)
       by false p = refl
 
--- past a cell above the top none is marked
-pub none-past : (reads : List ReadEntry) {top here : ℕ} → ((c : ℕ) → top < c → marksCell reads c ≡ false) → top < here
+-- past a cell above the bound none is marked
+pub none-past : (reads : List ReadEntry) {bound here : ℕ} → ((c : ℕ) → bound < c → marksCell reads c ≡ false) → bound < here
     → (y : WriteEntry) → ltb here (y .cell) ≡ true → marksCell reads (y .cell) ≡ false
-none-past reads {top} {here} above high y rises = above (y .cell) (omega (arith, ltb-true here (y .cell) rises))
+none-past reads {bound} {here} above high y rises = above (y .cell) (omega (arith, ltb-true here (y .cell) rises))
 
 -- ---- which log is gone through first
 

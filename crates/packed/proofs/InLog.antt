@@ -59,7 +59,7 @@ module _ {A : Type 0} {f : A → Bool} (d : A) {array : List A} {size count i : 
     pub entry-out : size ≤ i → none ≡ first f (take n array)
     entry-out h = rw (← counted) (sym (search-end f d array count i (so-far .left) (rw length-take (omega (arith, so-far .sized)))))
 
-    -- past an entry to which all that follow stand in R, if neither it nor such a one passes
+    -- past an entry that stands in R to all that follow, if neither it nor any y that it stands in R to passes
     pub entry-past : (R : A → A → Bool) → pairwise R (take n array) ≡ true → {e : A} → i < count → i < size → e ≡ getD array i d → f e ≡ false
         → ((y : A) → R e y ≡ true → f y ≡ false) → none ≡ first f (take n array)
     entry-past R ordered {e} h k there q past =

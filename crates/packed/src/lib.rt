@@ -6,9 +6,9 @@ ghost use Rattle.slot.specs.Layout.{readCapacity, writeCapacity, slotSize};
 ghost use Rattle.packed.specs.Places.{
   fieldsAt,
   withWritesAt,
+  Ascends,
   readEntryAt,
   writeEntryAt,
-  Ascends,
   readFoundAt,
   writeFoundAt,
   markedAt,

@@ -3,16 +3,14 @@ use mathlib.Core.List.{List}
 use mathlib.Core.Path.{_≡_}
 use Prim.Native.Nat.{ℕ, _<_}
 use native.Mathlib.Omega.{arith}
-use Rattle.packed.specs.Places.{slotIn}
 use Rattle.bothlogs.specs.BothLogs.{Indexed}
 use Rattle.area.specs.Good.{Good}
 use Rattle.area.specs.InPlace.{slotStart}
-use Rattle.area.proofs.SlotRead.{slot-of}
-use Rattle.area.proofs.Logged.{Logged, logged-of}
+use Rattle.area.proofs.Logged.{logged-at}
 
 pub indexed-of : {l : List ℕ} {i at : ℕ} → Good l → i < 8 → at ≡ slotStart l i → Indexed 8 at l
 indexed-of {l} {i} {at} good below place =
-    let logged : Logged l (slotIn 8 at l) = logged-of l good i below (slotIn 8 at l) (slot-of good below place) in
+    let logged = logged-at good below place in
     let long = good .long in
     let many = good .many in
     record {

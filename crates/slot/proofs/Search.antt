@@ -54,7 +54,7 @@ module _ {A : Type 0} (f : A → Bool) where
   of-some (x ∷ l) y p = front-some x (f x) (any f l) (first f l) y (of-some l y) p
 
   -- nothing is found where all elements meet a test that what passes does not
-  pub none-where : (g : A → Bool) (l : List A) → ((y : A) → g y ≡ true → f y ≡ false) → all g l ≡ true → first f l ≡ none
+  none-where : (g : A → Bool) (l : List A) → ((y : A) → g y ≡ true → f y ≡ false) → all g l ≡ true → first f l ≡ none
   unfolding all first
   none-where g [] h p = refl
   none-where g (x ∷ l) h p = rw (h x (and-left _ _ p)) (none-where g l h (and-right _ _ p))
@@ -102,7 +102,7 @@ module _ {A : Type 0} (f : A → Bool) (d : A) (array : List A) (n i : ℕ) (fro
   unfolding first
   search-end h = from ∙ rw (drop-of-length-le (take n array) h)
 
-  -- where all that follows an element stands in R to it, and neither it nor what stands so passes, nothing does
+  -- an element that stands in R to all that follow: where neither it nor any y that it stands in R to passes, nothing does
   pub search-past : (R : A → A → Bool) → pairwise R (take n array) ≡ true → i < n → i < length array → f (getD array i d) ≡ false
       → ((y : A) → R (getD array i d) y ≡ true → f y ≡ false) → first f (take n array) ≡ none
   unfolding pairwise

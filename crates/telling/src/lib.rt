@@ -32,7 +32,7 @@ fn index(slot: u8) -> u8
     slot - 1
 }
 
-// The write entry of a cell in a slot's record. Any bytes are taken, so the log need not ascend, and all of it is gone through.
+// The write entry of a cell in a slot's record. Any bytes are taken, so the log need not ascend: only the cell ends the search.
 fn find_written(own: SlotRecord, cell: u8) -> WriteFound
     ensures { λ r. ⌜ r ≡ writeFound (writeEntry (writeLog own) cell) ⌝ }
 {

@@ -1,5 +1,5 @@
 -- Before each turn no cell of the entries passed is marked, so some marked cell is in the write log if one is in what is left; past a cell above
--- the top there is none.
+-- the bound there is none.
 use mathlib.Core.Path.{refl, sym, _∙_}
 use Prim.Native.Nat.{_+_, _-_, _<_}
 use native.Mathlib.Omega.{arith}
@@ -15,11 +15,11 @@ use Rattle.bothlogs.proofs.marked_written.Statement.{statement}
 use Rattle.bothlogs.proofs.marked_written.Tie as tie
 
 abbrev Inv-loop : tie.InvT-loop
-Inv-loop s at width marked top count i₀ i =
+Inv-loop s at width marked bound count i₀ i =
     Sought (λ (w : WriteEntry). marksCell (readLog (slotIn width at s)) (w .cell)) (slotIn width at s .writes) writeCapacity count i
 
 abbrev μ-loop : tie.MeasureT-loop
-μ-loop s at width marked top count i₀ i = count - i
+μ-loop s at width marked bound count i₀ i = count - i
 
 note-marked-requires : tie.Need-note-marked-requires Inv-loop μ-loop
 note-marked-requires c κs = let pre = let c : tie.Start Inv-loop μ-loop = search in c .pre in (pre, refl)
@@ -61,7 +61,7 @@ cell-below c =
 cast-c : tie.Need-cast-c Inv-loop μ-loop
 cast-c c = omega arith
 
--- above the top no cell is marked
+-- above the bound no cell is marked
 returns : tie.Need-returns Inv-loop μ-loop
 returns c =
     let high = c .if1 .taken in

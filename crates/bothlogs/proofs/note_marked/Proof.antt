@@ -1,4 +1,4 @@
--- Before each turn the table has what the entries passed say of each cell, and above the top none of them is marked.
+-- Before each turn the table has what the entries passed say of each cell, and above the bound none of them is marked.
 use mathlib.Core.Logic.{inl, inr}
 use mathlib.Core.Path.{_≡_}
 use Prim.Native.Nat.{_+_, _-_, _≤_, _<_}
@@ -13,10 +13,10 @@ use Rattle.bothlogs.proofs.note_marked.Statement.{statement}
 use Rattle.bothlogs.proofs.note_marked.Tie as tie
 
 abbrev Inv-loop : tie.InvT-loop
-Inv-loop s at width marked₀ count top₀ i₀ marked top i = (i ≤ count) × Tabled marked top (slotIn width at s .reads) i
+Inv-loop s at width marked₀ count bound₀ i₀ marked bound i = (i ≤ count) × Tabled marked bound (slotIn width at s .reads) i
 
 abbrev μ-loop : tie.MeasureT-loop
-μ-loop s at width marked₀ count top₀ i₀ marked top i = count - i
+μ-loop s at width marked₀ count bound₀ i₀ marked bound i = count - i
 
 add-count : tie.Need-add-count Inv-loop μ-loop
 add-count c = let pre = let c : tie.Start Inv-loop μ-loop = search in c .pre in omega (arith, pre .0 .size)
