@@ -40,7 +40,7 @@ impl Random {
         }
     }
 
-    /// Values for so many cells; but for likely steps, wholes.
+    /// Values for so many cells: of all kinds for likely steps, else wholes.
     pub fn values_for(&mut self, tasks: Tasks, count: usize) -> Vec<Value> {
         match tasks {
             Tasks::Any(_) => self.values(count),

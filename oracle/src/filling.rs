@@ -9,8 +9,9 @@ use crate::random::Random;
 /// One in so many steps of an open slot closes it with what it has.
 const PATIENCE: u64 = 60;
 
-/// The same where the log is full, and one in so many steps in twilight goes on.
-const PATIENCE_WHEN_FULL: u64 = 6;
+/// One in so many steps goes on where no more is to be added: the log is full, or
+/// the slot is in twilight.
+const PATIENCE_WHEN_FILLED: u64 = 6;
 
 impl Random {
     /// A slot writes until its log is full, reads now and then, looks for cells
@@ -21,12 +22,12 @@ impl Random {
         let Some(own) = machine.slot(slot) else {
             return call(Step::Begin);
         };
-        let full = own.writes.len() == Transaction::LOG_ROOM;
-        let patience = if full { PATIENCE_WHEN_FULL } else { PATIENCE };
+        let fills = own.phase == Phase::Open && own.writes.len() < Transaction::LOG_ROOM;
+        let patience = if fills { PATIENCE } else { PATIENCE_WHEN_FILLED };
         let steps: &[Step] = match own.phase {
-            Phase::Open if full => &[Step::Read, Step::Write],
-            Phase::Open => &[Step::Read, Step::Write, Step::Write, Step::Write],
-            Phase::Twilight(_) if full => &[Step::Update],
+            Phase::Open if fills => &[Step::Read, Step::Write, Step::Write, Step::Write],
+            Phase::Open => &[Step::Read, Step::Write],
+            Phase::Twilight(_) => &[Step::Update],
             _ => &[],
         };
         let step = self.pick(steps).filter(|_| !self.one_in(patience));
@@ -34,19 +35,19 @@ impl Random {
             return self.call_to_commit(own, slot);
         };
         let likely = self.with_likely_arguments(machine, call(step));
-        let cell = if full { self.cell_near_the_ends(machine, own) } else { likely.cell };
+        let cell = if fills { likely.cell } else { self.cell_near_the_ends(machine, own) };
         Call { cell, ..likely }
     }
 
-    /// The lowest and the highest cell of a write log and those next to them, as
-    /// often as any other.
+    /// Four times in six the lowest cell of a write log, the highest, or one next
+    /// to them outside of it; else any cell.
     pub(crate) fn cell_near_the_ends(&mut self, machine: &Machine, own: &Transaction) -> u8 {
         let last = machine.cells().len() as u8 - 1;
         let any = self.up_to(last.into()) as u8;
         let ends = own.writes.first().zip(own.writes.last());
-        let near = ends.map(|(first, highest)| {
-            let (first, highest) = (first.cell, highest.cell);
-            [first.saturating_sub(1), first, highest, last.min(highest + 1), any, any]
+        let near = ends.map(|(lowest, highest)| {
+            let (lowest, highest) = (lowest.cell, highest.cell);
+            [lowest.saturating_sub(1), lowest, highest, last.min(highest + 1), any, any]
         });
         self.pick(&near.unwrap_or([any; 6])).unwrap_or(any)
     }

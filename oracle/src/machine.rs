@@ -104,12 +104,13 @@ impl Transaction {
         self.reads.iter().any(|read| read.marked)
     }
 
-    /// The marked cells, in read-log order.
+    /// The cells of the marked read entries, in the order of the read log.
     pub fn marked(&self) -> impl Iterator<Item = u8> + '_ {
         self.reads.iter().filter(|read| read.marked).map(|read| read.cell)
     }
 
-    /// Those of them that are also in the write log.
+    /// The marked cells that are also in the write log, in the order of the read
+    /// log.
     pub fn marked_written(&self) -> impl Iterator<Item = u8> + '_ {
         self.marked().filter(|cell| self.write_of(*cell).is_some())
     }

@@ -7,11 +7,11 @@ use crate::counts::{rarest, Count};
 use crate::machine::{Machine, Transaction};
 
 /// How many counts there are, and so how many least ones.
-pub(crate) const COUNTED: usize = SOUGHT.len() + LOOKED.len();
+pub(crate) const COUNTED: usize = WITH_ROOM.len() + FULL.len() + LOOKED.len();
 
-/// The steps that look for their cell in the write log. Write has to do so only
-/// where the log is full.
-const SEEKING: [Step; 3] = [Step::Read, Step::Write, Step::Update];
+/// The steps that look for their cell in the write log. The last one has to do so
+/// only where the log is full.
+const SEEKING: [Step; 3] = [Step::Read, Step::Update, Step::Write];
 
 /// What a place is called, and whether a cell is sought there.
 type Place = (&'static str, fn(&Sought) -> bool);
@@ -55,20 +55,24 @@ impl Sought<'_> {
     }
 }
 
-/// Where a cell may be sought in a log of several entries.
-const SOUGHT: [Place; 10] = [
-    ("below several written cells", |sought| sought.is_below()),
-    ("in a gap of several written cells", |sought| sought.is_in_a_gap()),
-    ("above several written cells", |sought| sought.is_above()),
-    ("the lowest of several written cells", |sought| sought.is_first()),
-    ("the highest of several written cells", |sought| sought.is_last()),
-    ("another of several written cells", |sought| {
+/// Where a cell may be sought in a log of several entries that is not full.
+const WITH_ROOM: [Place; 6] = [
+    ("below a log with room", |sought| sought.is_below()),
+    ("in a gap of a log with room", |sought| sought.is_in_a_gap()),
+    ("above a log with room", |sought| sought.is_above()),
+    ("the first entry of a log with room", |sought| sought.is_first()),
+    ("the last entry of a log with room", |sought| sought.is_last()),
+    ("another entry of a log with room", |sought| {
         sought.is_entry() && !sought.is_first() && !sought.is_last()
     }),
-    ("below a full log", |sought| sought.is_full() && sought.is_below()),
-    ("in a gap of a full log", |sought| sought.is_full() && sought.is_in_a_gap()),
-    ("above a full log", |sought| sought.is_full() && sought.is_above()),
-    ("an entry of a full log", |sought| sought.is_full() && sought.is_entry()),
+];
+
+/// Where it may be sought in a full one.
+const FULL: [Place; 4] = [
+    ("below a full log", |sought| sought.is_below()),
+    ("in a gap of a full log", |sought| sought.is_in_a_gap()),
+    ("above a full log", |sought| sought.is_above()),
+    ("an entry of a full log", |sought| sought.is_entry()),
 ];
 
 /// The marked cells and the written ones, and the code of the ignore.
@@ -103,12 +107,12 @@ fn place_of(step: u8) -> Option<usize> {
     SEEKING.iter().position(|seeking| seeking.number() == step)
 }
 
-/// Counts of searches in logs of several entries.
+/// Counts of searches in logs of several entries. Those of places are by step,
+/// too: a search may be wrong in one of them alone.
 #[derive(Clone, Debug, Default)]
 pub(crate) struct Searches {
-    /// By place, of each step that seeks: a search may be wrong in one of them
-    /// alone.
-    sought: [[u64; SEEKING.len()]; SOUGHT.len()],
+    with_room: [[u64; SEEKING.len() - 1]; WITH_ROOM.len()],
+    full: [[u64; SEEKING.len()]; FULL.len()],
     looked: [u64; LOOKED.len()],
 }
 
@@ -136,11 +140,10 @@ impl Searches {
     }
 
     fn note_sought(&mut self, step: usize, sought: Sought) {
-        if SEEKING[step] == Step::Write && !sought.is_full() {
-            return;
-        }
-        for (counts, (_, is_such)) in self.sought.iter_mut().zip(SOUGHT) {
-            counts[step] += u64::from(is_such(&sought));
+        if sought.is_full() {
+            note_place(&mut self.full, &FULL, step, &sought);
+        } else {
+            note_place(&mut self.with_room, &WITH_ROOM, step, &sought);
         }
     }
 
@@ -153,15 +156,36 @@ impl Searches {
         }
     }
 
-    /// The counts with these least ones, in this order. Of a place it is that of
-    /// the step that has been there least.
+    /// The counts with these least ones, in this order.
     pub fn counts(&self, least: [u64; COUNTED]) -> Vec<Count> {
-        let sought = SOUGHT.iter().zip(&self.sought);
-        let sought = sought.map(|((place, _), counts)| {
-            (format!("sought {place}, by the step that does so least"), rarest(counts))
-        });
+        let with_room = of_places(&self.with_room, &WITH_ROOM);
+        let full = of_places(&self.full, &FULL);
         let looked = LOOKED.iter().zip(self.looked);
-        let named = sought.chain(looked.map(|((name, _), count)| (name.to_string(), count)));
-        named.zip(least).map(|((name, count), least)| (name, count, least)).collect()
+        let looked = looked.map(|((name, _), count)| (name.to_string(), count));
+        let all = with_room.chain(full).chain(looked);
+        all.zip(least).map(|((name, count), least)| (name, count, least)).collect()
     }
+}
+
+/// Notes where a cell is sought by a step. One that does not have to seek in such
+/// a log has no count.
+fn note_place<const STEPS: usize>(
+    counts: &mut [[u64; STEPS]],
+    places: &[Place],
+    step: usize,
+    sought: &Sought,
+) {
+    for (counts, (_, is_there)) in counts.iter_mut().zip(places) {
+        counts.get_mut(step).into_iter().for_each(|count| *count += u64::from(is_there(sought)));
+    }
+}
+
+/// Of each place the count of the step that has been there least.
+fn of_places<'a, const STEPS: usize>(
+    counts: &'a [[u64; STEPS]],
+    places: &'a [Place],
+) -> impl Iterator<Item = (String, u64)> + 'a {
+    places.iter().zip(counts).map(|((place, _), counts)| {
+        (format!("sought {place}, by the step that does so least"), rarest(counts))
+    })
 }

@@ -68,8 +68,7 @@ pub fn all() -> Option<Vec<Case>> {
     cases.extend(with_marks(&entered, &Stage::set(HELD..HELD + 16)?.entered()));
     cases.extend(with_flags(&Stage::among_flags()?)?);
     cases.extend(in_a_full_log(&Stage::among_open(32..47, 0..0)?));
-    let (marked, unmarked) = (Stage::among_open(0..16, 0..16)?, Stage::among_open(0..16, 0..0)?);
-    cases.extend(with_marks_below(&marked, &unmarked));
+    cases.extend(with_marks_apart()?);
     Some(cases)
 }
 
@@ -247,17 +246,22 @@ fn in_a_full_log(begun: &Stage) -> Vec<Case> {
     cases
 }
 
-/// Full logs: all that was read is marked and below what is written, or nothing
-/// is marked.
-fn with_marks_below(marked: &Stage, unmarked: &Stage) -> Vec<Case> {
-    let ignore = |stage: &Stage, row| {
-        let entered = stage.each(Write, 48..64).with_locks().then(Enter);
-        entered.case(Ignore, 0, 0).in_row(row)
-    };
-    vec![
-        ignore(marked, "ignore, full logs: all marked below what is written"),
-        ignore(unmarked, "ignore, no mark, 16 written"),
-    ]
+/// Full logs that have no marked cell in common. What bounds the look at the
+/// written ones may lie above all marks: joined by `|`, 17 to 32 give 63.
+fn with_marks_apart() -> Option<[Case; 4]> {
+    let [even, odd] = [0, 1].map(|first| (first..32).step_by(2));
+    let below = Stage::among_open(0..16, 0..16)?.each(Write, 48..64);
+    let below_a_bound = Stage::among_open(17..33, 17..33)?.each(Write, 40..56);
+    let in_turns = Stage::among_open(even.clone(), even)?.each(Write, odd);
+    let unmarked = Stage::among_open(0..16, 0..0)?.each(Write, 48..64);
+    let rows = [
+        (below, "ignore, full logs: all marked below what is written"),
+        (below_a_bound, "ignore, 16 marks up to 32, writes from 40 on"),
+        (in_turns, "ignore, 16 marks and 16 writes between them"),
+        (unmarked, "ignore, no mark, 16 written"),
+    ];
+    let entered = |written: Stage| written.with_locks().then(Enter);
+    Some(rows.map(|(written, row)| entered(written).case(Ignore, 0, 0).in_row(row)))
 }
 
 impl Stage {

@@ -45,7 +45,10 @@ impl Stage {
 
     /// The subject has begun and read cells, slot 7 has published some, and all
     /// slots but the subject are open and hold nothing.
-    pub fn among_open(early_reads: Range<u8>, newer: Range<u8>) -> Option<Stage> {
+    pub fn among_open(
+        early_reads: impl Iterator<Item = u8>,
+        newer: impl Iterator<Item = u8> + Clone,
+    ) -> Option<Stage> {
         let mut stage = Stage::fresh(&usual_values())?.then(Begin).each(Read, early_reads);
         stage.renew(7, newer);
         (1..SUBJECT).for_each(|slot| stage.fill_logs(slot, 16..32));
@@ -83,7 +86,7 @@ impl Stage {
     }
 
     /// The slot publishes these cells.
-    fn renew(&mut self, slot: u8, cells: Range<u8>) {
+    fn renew(&mut self, slot: u8, cells: impl Iterator<Item = u8> + Clone) {
         self.make(slot, Begin, 0);
         cells.clone().for_each(|cell| self.make(slot, Write, cell));
         self.make(slot, Close, 0);
@@ -146,7 +149,7 @@ impl Stage {
     }
 
     /// The subject has made the step on each of these cells.
-    pub fn each(&self, step: Step, cells: Range<u8>) -> Stage {
+    pub fn each(&self, step: Step, cells: impl Iterator<Item = u8>) -> Stage {
         let mut next = self.clone();
         cells.for_each(|cell| next.make(SUBJECT, step, cell));
         next

@@ -10,12 +10,18 @@ use crate::machine::{Transaction, CELLS_AT_MOST};
 const ROOM: u8 = Transaction::LOG_ROOM as u8;
 const ALL_CELLS: u8 = CELLS_AT_MOST as u8;
 
-/// Marked cells, in every order in which they may have been read.
-const MARKED: [[u8; 3]; 6] =
-    [[10, 20, 40], [10, 40, 20], [20, 10, 40], [20, 40, 10], [40, 10, 20], [40, 20, 10]];
+/// Marked cells, and of others one below them, two between and one next above.
+/// A look at what is written may end above any bound of the marked cells: joined
+/// by `|` the first three give 62, and the others their highest. Joined by `^`
+/// these give 12, which is no bound.
+const MARKED: [([u8; 3], [u8; 4]); 2] =
+    [([10, 20, 40], [5, 15, 30, 41]), ([4, 36, 44], [3, 20, 40, 45])];
+
+/// Every order in which three cells may have been read.
+const ORDERS: [[usize; 3]; 6] = [[0, 1, 2], [0, 2, 1], [1, 0, 2], [1, 2, 0], [2, 0, 1], [2, 1, 0]];
 
 /// Logs of 0, 1, 2, 8, 15 and 16 entries, full ones with gaps and without, from
-/// the first cell on and up to the last one; then marks in every order.
+/// the first cell on and up to the last one; then marks read in every order.
 pub(super) fn sheets_that_search() -> Vec<Case> {
     let every_third = |count: u8| (0..count).map(|place| 3 + 3 * place).collect();
     let logs: [Vec<u8>; 9] = [
@@ -30,7 +36,9 @@ pub(super) fn sheets_that_search() -> Vec<Case> {
         (0..ROOM).map(|place| place * (ALL_CELLS / (ROOM - 1))).collect(),
     ];
     let mut cases: Vec<Case> = logs.iter().map(|log| every_cell_sought(log)).collect();
-    cases.extend(MARKED.map(marked_and_written));
+    for (marked, others) in MARKED {
+        cases.extend(ORDERS.map(|order| marked_and_written(marked, others, order)));
+    }
     cases
 }
 
@@ -62,26 +70,28 @@ fn every_cell_sought(log: &[u8]) -> Case {
     steps.on_cells(name, CELLS_AT_MOST)
 }
 
-/// The lowest, the middle or the highest of the marked cells is written, or none,
-/// with one above and one below it that is not marked; and all that is written
-/// stands below the marks or above them.
-fn marked_and_written(marked: [u8; 3]) -> Case {
+/// The lowest, the middle or the highest of the marked cells is written beside
+/// others, or none; and all that is written stands below the marks or above them.
+fn marked_and_written(marked: [u8; 3], others: [u8; 4], order: [usize; 3]) -> Case {
+    let [lowest, middle, highest] = marked;
+    let [below, lower_gap, upper_gap, above] = others;
+    let last = ALL_CELLS - 1;
     let logs: [&[u8]; 9] = [
-        &[5, 10, 50],
-        &[15, 20, 50],
-        &[15, 30, 40],
-        &[15, 40, 50],
-        &[5, 15, 30, 40],
-        &[5, 15, 30, 50],
-        &[5, 6, 7],
-        &[50, 60, 63],
-        &[0, 40],
+        &[below, lowest, above],
+        &[lower_gap, middle, above],
+        &[lower_gap, upper_gap, highest],
+        &[lower_gap, highest, above],
+        &[below, lower_gap, upper_gap, highest],
+        &[below, lower_gap, upper_gap, above, last],
+        &[0, below],
+        &[above, above + 1, last],
+        &[0, highest],
     ];
+    let reads = order.map(|place| marked[place]);
     let mut steps = Steps::default();
-    let mut stale = marked;
-    stale.sort_unstable();
     for written in logs {
-        two_tries(&mut steps, (3, 4), &marked, written, &stale);
+        two_tries(&mut steps, (3, 4), &reads, written, &marked);
     }
-    steps.on_cells(format!("marks on {marked:?}, and other cells written"), CELLS_AT_MOST)
+    let name = format!("marks on {reads:?}, cells written at, between and around them");
+    steps.on_cells(name, CELLS_AT_MOST)
 }

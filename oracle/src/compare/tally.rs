@@ -24,7 +24,7 @@ const IGNORES: [u64; ignores::COUNTED] = [350, 60, 25, 18, 1, 2, 120, 50, 450, 1
 
 /// The least counts of searches of a write log.
 const SEARCHES: [u64; searches::COUNTED] =
-    [30, 100, 70, 150, 135, 240, 22, 80, 60, 540, 38, 11, 16];
+    [75, 140, 110, 480, 450, 290, 22, 85, 50, 570, 38, 11, 16];
 
 /// Counts of what was compared and found alike.
 #[derive(Clone, Debug, Default)]

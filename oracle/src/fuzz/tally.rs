@@ -23,7 +23,7 @@ const IGNORES: [u64; ignores::COUNTED] = [1000, 400, 60, 60, 70, 60, 400, 1000, 
 
 /// The least counts of searches of a write log.
 const SEARCHES: [u64; searches::COUNTED] =
-    [110, 210, 110, 400, 420, 260, 110, 180, 95, 970, 660, 160, 28];
+    [155, 170, 150, 295, 275, 120, 110, 180, 95, 970, 660, 160, 28];
 
 /// The least counts of areas that lose an update, in the order of their names.
 const LOST: [u64; Lost::ALL.len()] = [900, 600, 300];

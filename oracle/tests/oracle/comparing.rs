@@ -167,7 +167,7 @@ fn what_is_right_passes_and_every_least_count_is_reached() {
     };
     let tally = compared(Vec::new(), &on_area, 2_000);
     let tally = tally.unwrap_or_else(|failure| panic!("{failure}"));
-    assert!(tally.compared() >= 2_825, "{tally}");
+    assert!(tally.compared() >= 2_831, "{tally}");
     assert_eq!(tally.short(2_000), [""; 0], "{tally}");
 }
 

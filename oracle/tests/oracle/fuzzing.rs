@@ -113,12 +113,12 @@ pub const IGNORED: [&str; 12] = [
 
 /// What is told short of a run in which nothing is looked for in a write log.
 pub const SEARCHED: [&str; 13] = [
-    "sought below several written cells,",
-    "sought in a gap of several written cells,",
-    "sought above several written cells,",
-    "sought the lowest of several written cells,",
-    "sought the highest of several written cells,",
-    "sought another of several written cells,",
+    "sought below a log with room,",
+    "sought in a gap of a log with room,",
+    "sought above a log with room,",
+    "sought the first entry of a log with room,",
+    "sought the last entry of a log with room,",
+    "sought another entry of a log with room,",
     "sought below a full log,",
     "sought in a gap of a full log,",
     "sought above a full log,",

@@ -163,16 +163,22 @@ macro_rules! wrong_looks {
         seeing_too_much: $($other:literal, $more:expr;)*
     ) => {
         pub const WRONG_LOOKS: &[(&str, StepOnBytes)] = &[
-            $(($name, |area, call| judged(area, call, |peek, slot| seen(peek, slot, $look))),)*
-            $(($other, |area, call| judged(area, call, |peek, slot| seen(peek, slot, $more))),)*
+            $((concat!("ignore ", $name), |area, call| {
+                judged(area, call, |peek, slot| seen(peek, slot, $look))
+            }),)*
+            $((concat!("ignore ", $other), |area, call| {
+                judged(area, call, |peek, slot| seen(peek, slot, $more))
+            }),)*
         ];
 
         pub const LENIENT_LOOKS: &[(&str, StepOnBytes)] = &[
-            $(($name, |area, call| lenient(area, call, |peek, slot| seen(peek, slot, $look))),)*
+            $((concat!("check ", $name), |area, call| {
+                lenient(area, call, |peek, slot| seen(peek, slot, $look))
+            }),)*
         ];
 
         pub const STRICT_LOOKS: &[(&str, StepOnBytes)] = &[
-            $(($other, |area, call| {
+            $((concat!("check ", $other), |area, call| {
                 strict(area, call, |peek, slot| peek.flag(slot) == 1 && seen(peek, slot, $more))
             }),)*
         ];
@@ -195,6 +201,10 @@ wrong_looks! {
         };
         "ends above all that was marked but the last", |marked, written| {
             seen_up_to(marked.iter().rev().skip(1).max().or(marked.last()), marked, written)
+        };
+        "ends above the marked cells joined by exclusive or", |marked, written| {
+            let joined = marked.iter().copied().reduce(|one, other| one ^ other);
+            seen_up_to(joined.as_ref(), marked, written)
         };
         "ends at the highest marked cell", |marked, written| {
             let highest = marked.iter().max();
