@@ -1,4 +1,5 @@
 // A step sheet taken apart. Any bytes are taken.
+#![tactic(auto)]
 ghost use Rattle.std.specs.Prelude.{◌≡◌, ◌<◌, drop};
 ghost use Rattle.wire.specs.Field.{be};
 ghost use Rattle.apart.specs.Apart.{byte_at, step_word, described_right, steps_right, taken_apart};
@@ -6,7 +7,7 @@ ghost use Rattle.apart.specs.Apart.{byte_at, step_word, described_right, steps_r
 use fresh::{DESCRIPTION, MOST_CELLS};
 
 // A sheet's parts: how many cells it describes, where its first step stands, and how many steps it has.
-#[derive(Drop)]
+#[derive(Clone, Copy)]
 pub enum Sheet {
     Good {
         cells: usize,

@@ -1,4 +1,6 @@
 // A step as one value that carries its own arguments, and the reply.
+#![tactic(auto)]
+
 ghost use Rattle.std.specs.Prelude.{◌≡◌};
 ghost use Rattle.call.specs.Answer.{held_word, reply_code, reply_kind, reply_word, reply_number};
 ghost use Rattle.call.specs.Decode.{a_write, an_update, decoded};
@@ -7,7 +9,7 @@ ghost use Rattle.value.specs.Value.{parsed};
 use value::{CellValue, Parsed};
 
 // The fourteen steps. A number is a cell.
-#[derive(Drop)]
+#[derive(Clone, Copy)]
 pub enum Step {
     Begin,
     Read(u8),
@@ -26,7 +28,7 @@ pub enum Step {
 }
 
 // What the numbers of a call say. A write or an update whose kind or word is illegal has no value, but keeps its cell: codes 3, 4 and 5 come before 6.
-#[derive(Drop)]
+#[derive(Clone, Copy)]
 pub enum Decoded {
     Made(Step),
     IllegalWrite(u8),
@@ -35,7 +37,7 @@ pub enum Decoded {
 }
 
 // The answer to a call, with a case for each cause.
-#[derive(Drop)]
+#[derive(Clone, Copy)]
 pub enum Reply {
     Done,
     Verdict(bool),

@@ -1,5 +1,6 @@
 // The two functions for C, thin: the lent area is checked, the call decoded, and the step taken in place. Nothing is asked of the caller but that the
 // slices are what they say.
+#![tactic(auto)]
 ghost use Rattle.rules.specs.Run.{call};
 ghost use Rattle.fresh.specs.LaidOut.{LaidOut};
 ghost use Rattle.crocktendril.specs.Contract.{Stepped};

@@ -1,4 +1,5 @@
 // The effects of a step sheet's run, a line each. Any bytes are taken, and any buffers.
+#![tactic(auto)]
 ghost use Rattle.stage.specs.Calls.{call_of};
 ghost use Rattle.effects.specs.Steps.{StepTraced, StepsTraced};
 ghost use Rattle.effects.specs.Traced.{SheetTraced};
@@ -7,7 +8,7 @@ use stage::{Ran, Stage};
 use tally::Numbers;
 
 // The numbers after a step, and where the lines end.
-#[derive(Drop)]
+#[derive(Clone, Copy)]
 pub struct Traced {
     pub numbers: Numbers,
     pub end: usize,

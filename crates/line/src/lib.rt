@@ -1,4 +1,6 @@
 // Lines and fields as bytes, put into a lent buffer. A part that does not fit leaves the buffer untouched, and the answer says so.
+#![tactic(auto)]
+
 ghost use Rattle.std.specs.Prelude.{cond, false, ◌++◌, ◌∷◌, [], ◌≡◌, ◌-◌, eqb, take};
 ghost use Rattle.line.specs.Number.{digit as digitOf, base_of, least_of, numeral};
 ghost use Rattle.line.specs.Line.{answer_line, cell_line, clock_line, field};
@@ -6,14 +8,14 @@ ghost use Rattle.line.specs.Gather.{Puts, Leaves, end_of, gathered, added};
 ghost use Rattle.line.specs.Spelt.{Spelt};
 
 // How a number is written: in decimal without zeros in front, or in hex with 8 digits at least.
-#[derive(Drop)]
+#[derive(Clone, Copy)]
 pub enum Style {
     Decimal,
     Hex,
 }
 
 // Where a part that was put ends, or that the buffer is too short for it.
-#[derive(Drop)]
+#[derive(Clone, Copy)]
 pub enum Put {
     End(usize),
     Short,

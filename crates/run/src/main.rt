@@ -1,4 +1,5 @@
 // Runs the step sheet on standard input, and writes what it prints to standard output.
+#![tactic(auto)]
 use libc::{STDIN_FILENO, STDOUT_FILENO};
 use stage::Ran;
 

@@ -1,11 +1,13 @@
 // A slot's record by value, and its entries.
+#![tactic(auto)]
+
 ghost use Rattle.std.specs.Prelude.{◌≡◌};
 ghost use Rattle.slot.specs.Layout.{empty};
 
 mod operations;
 
 // A read entry: its cell, whether it is marked, and the word read.
-#[derive(Drop)]
+#[derive(Clone, Copy)]
 pub struct ReadEntry {
     pub cell: u8,
     pub mark: bool,
@@ -18,7 +20,7 @@ impl ReadEntry {
 }
 
 // A write entry: its cell and the word to be published.
-#[derive(Drop)]
+#[derive(Clone, Copy)]
 pub struct WriteEntry {
     pub cell: u8,
     pub word: u32,
@@ -30,21 +32,21 @@ impl WriteEntry {
 }
 
 // What a search of the read log finds.
-#[derive(Drop)]
+#[derive(Clone, Copy)]
 pub enum ReadFound {
     Entry(ReadEntry),
     Nothing,
 }
 
 // What a search of the write log finds.
-#[derive(Drop)]
+#[derive(Clone, Copy)]
 pub enum WriteFound {
     Entry(WriteEntry),
     Nothing,
 }
 
 // What the area keeps of a slot. Entries from a log's count on are zero.
-#[derive(Drop)]
+#[derive(Clone, Copy)]
 pub struct SlotRecord {
     pub phase: u8,
     pub ignoring: bool,

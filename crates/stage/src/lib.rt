@@ -1,4 +1,5 @@
 // What the programs that run a step sheet share: its area laid out, and one step made from its 8 bytes. Any bytes are taken, and any areas.
+#![tactic(auto)]
 ghost use Rattle.line.specs.Gather.{Leaves, gathered, added};
 ghost use Rattle.crocktendril.specs.Contract.{Stepped};
 ghost use Rattle.stage.specs.Calls.{call_of};
@@ -9,14 +10,14 @@ use apart::Sheet;
 use area::{CELL, HEADER};
 
 // How many bytes of output were written, or that the area or the buffer is too short.
-#[derive(Drop)]
+#[derive(Clone, Copy)]
 pub enum Ran {
     Written(usize),
     Short,
 }
 
 // A sheet's area is laid out in the first `length` bytes, and its steps are the bytes `first` to `end`; or the sheet is bad; or the area is too short.
-#[derive(Drop)]
+#[derive(Clone, Copy)]
 pub enum Stage {
     Ready {
         length: usize,

@@ -1,10 +1,11 @@
 // What a step counts for: the number of its transaction, and what it shows. Any numbers are taken.
+#![tactic(auto)]
 ghost use Rattle.std.specs.Prelude.{◌≡◌, get_or};
 ghost use Rattle.tally.specs.Numbering.{no_numbers, numbers_after};
 ghost use Rattle.tally.specs.Showing.{shown_by, read_shown};
 
 // What a step shows.
-#[derive(Drop)]
+#[derive(Clone, Copy)]
 pub enum Shown {
     Begun,
     Read,
@@ -15,7 +16,7 @@ pub enum Shown {
 }
 
 // How many transactions have begun, and the number of each slot's last one, 0 for none. A slot has the place of its own number.
-#[derive(Drop)]
+#[derive(Clone, Copy)]
 pub struct Numbers {
     pub begun: u64,
     pub last: [u64; Numbers::PLACES],

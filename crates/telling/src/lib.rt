@@ -1,4 +1,5 @@
 // What one step tells: what its slot has before it, and its line. Any bytes are taken, and any buffers.
+#![tactic(auto)]
 ghost use Rattle.std.specs.Prelude.{◌≡◌, pred};
 ghost use Rattle.slot.specs.Logs.{write_log, write_entry};
 ghost use Rattle.slot.specs.Operations.{write_found};
@@ -11,7 +12,7 @@ use slot::{ReadFound, SlotRecord, WriteFound};
 use tally::Shown;
 
 // What a step's slot has before it, as far as an effect tells of it: whether a log has the step's cell, and the record with its write log.
-#[derive(Drop)]
+#[derive(Clone, Copy)]
 pub struct Before {
     pub logged: bool,
     pub own: SlotRecord,

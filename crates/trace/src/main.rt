@@ -1,4 +1,5 @@
 // Runs the step sheet on standard input, and writes its effects to standard output, a line each.
+#![tactic(auto)]
 use libc::{STDIN_FILENO, STDOUT_FILENO};
 use stage::Ran;
 

@@ -1,4 +1,6 @@
 // A cell value: a truth value, a whole number or a real, built from and turned back into the kind and word of the area.
+#![tactic(auto)]
+
 ghost use Rattle.std.specs.Prelude.{cond, ◌≡◌};
 ghost use Rattle.std.specs.Float.{binary32};
 ghost use Rattle.std.specs.Float.Ieee.{of_bits, to_bits};
@@ -7,7 +9,7 @@ ghost use Rattle.std.proofs.Common.{of_z, to_z};
 ghost use Rattle.value.specs.Legal.{legal_word};
 ghost use Rattle.value.specs.Value.{kind_of, word_of, parsed, value_of};
 
-#[derive(Drop)]
+#[derive(Clone, Copy)]
 pub enum CellValue {
     Truth(bool),
     Whole(i32),
@@ -15,7 +17,7 @@ pub enum CellValue {
 }
 
 // What a kind and a word stand for.
-#[derive(Drop)]
+#[derive(Clone, Copy)]
 pub enum Parsed {
     Legal(CellValue),
     Illegal,

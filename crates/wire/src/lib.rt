@@ -1,4 +1,6 @@
 // Big-endian fields of any width in a byte slice, and a part put in place of as many bytes.
+#![tactic(auto)]
+
 ghost use Rattle.std.specs.Prelude.{◌≡◌, ◌+◌, ◌≤◌, length};
 ghost use Rattle.wire.specs.Field.{field_at, field_put};
 ghost use Rattle.wire.specs.Part.{splice};
