@@ -3,7 +3,6 @@ use mathlib.Core.Bool.{Bool, true, false, not, cond, false≢true}
 use mathlib.Core.Path.{◌≡◌, refl, sym, ◌∙◌, ap}
 use Prim.Native.Nat.{ℕ, zero, suc, ◌+◌, ◌<◌}
 use native.Mathlib.Numerals.{add-one}
-use borrow.Author.Tests.{not-true, not-false}
 use Rattle.slot.specs.Logic.{◌and◌, ◌or◌, every}
 use Rattle.slot.proofs.Logic.{and_assoc, true-and, every-at, both_ways}
 
@@ -38,11 +37,11 @@ pub pick_no : (b x y r : Bool) → b ≡ false → r ≡ y → r ≡ cond b x y
 pick_no b x y r p q = rw p q
 
 -- what a test that is a call says of the clause that the call decides
-pub passes : {x a : Bool} → x ≡ a → not x ≡ false → a ≡ true
-passes e p = sym e ∙ not-false _ p
+pub passes : {x a : Bool} → x ≡ a → x ≡ true → a ≡ true
+passes e p = sym e ∙ p
 
-pub fails : {x a : Bool} → x ≡ a → not x ≡ true → a ≡ false
-fails e p = sym e ∙ not-true _ p
+pub fails : {x a : Bool} → x ≡ a → x ≡ false → a ≡ false
+fails e p = sym e ∙ p
 
 -- the order of a conjunction does not matter
 pub and_comm : (a b : Bool) → (a and b) ≡ (b and a)

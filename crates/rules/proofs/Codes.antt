@@ -1,7 +1,7 @@
 -- The lowest code that applies is given: for each step its row and the table ask the same tests in the same order.
 use mathlib.Core.Bool.{Bool, true, false, not, cond}
 use mathlib.Core.List.{List, [], ◌∷◌}
-use mathlib.Core.Path.{◌≡◌, refl, sym, ◌∙◌, ap}
+use mathlib.Core.Path.{◌≡◌, refl, sym, ◌∙◌, ap, subst}
 use Prim.Native.Nat.{ℕ, zero, suc, pred, ◌<◌}
 use native.Mathlib.Omega.{arith}
 use borrow.Author.Tests.{leb-true, leb-false, ltb-true, le-ltb, lt-ltb, le-leb, lt-leb}
@@ -286,7 +286,8 @@ unfolding first_of any pairwise ◌and◌ ◌or◌
 first-lowest [] n k p e = refl
 first-lowest (code when true ∷ rows) n k p e =
     let same : code ≡ k = ap ending_code e in
-    rw (← same, le-ltb (height code) (height code) (omega arith)) (none-lower code rows (and_left (all (λ (q : Row). ltb (height code) (height (row_number q))) rows) _ p))
+    subst (λ (k : ℕ). any (lower_applies k) (code when true ∷ rows) ≡ false) same
+    (rw (le-ltb (height code) (height code) (omega arith)) (none-lower code rows (and_left (all (λ (q : Row). ltb (height code) (height (row_number q))) rows) _ p)))
 first-lowest (code when false ∷ rows) n k p e =
     first-lowest rows n k (and_right (all (λ (q : Row). ltb (height code) (height (row_number q))) rows) _ p) e
 

@@ -9,51 +9,36 @@ use Rattle.packed.proofs.InLog.{writes-counted, writes-sized, sought-start, entr
 use Rattle.bothlogs.proofs.Overlap.{told-marked, told-unmarked, none-past, either_way}
 use Rattle.bothlogs.proofs.marked_written.Goals as goal
 
--- a turn begins at an entry of the log
-inside : (c : tie.In-loop invariant-loop decreases-loop) → c.before.loop.i < write_capacity
-inside c =
-    let start = let c : tie.Start invariant-loop decreases-loop = search in c in
-    omega (arith, c.loop-test.taken, start.pre.writes, writes-counted start.args.width start.args.at start.args.s.now)
-
--- the entry that was read has a cell below 64
-cell_below : (c : tie.After-write-at invariant-loop decreases-loop) → c.write-at.result.cell < 64
-cell_below c =
-    let here = c.write-at.ensures in
-    let more = let c : tie.In-loop invariant-loop decreases-loop = search in c.loop-test.taken in
-    let start = let c : tie.Start invariant-loop decreases-loop = search in c in
-    rw here (start.pre.writes_below _ (rw (← writes-counted start.args.width start.args.at start.args.s.now) more))
-
 pub loop-i-init : goal.loop-i-init
 loop-i-init c =  sought-start (writes-sized c.args.width c.args.at c.args.s.now)
 
 pub write_at-e-requires : goal.write_at-e-requires
 write_at-e-requires c =
-    (c.requires.narrow, c.requires.size, inside c)
+    (c.requires.narrow, c.requires.size, omega (arith, c.loop-i-test.true, c.requires.writes, writes-counted c.args.width c.args.at c.args.s.now))
 
 -- above the bound no cell is marked
 pub returns-then-bound-c : goal.returns-then-bound-c
 returns-then-bound-c c =
-    let room = inside c in
-    let args = c.args in
-    sym (of_none _ _ (sym (entry_past no_write c.loop-i.invariant (writes-counted args.width args.at args.s.now) _ c.requires.ascending c.loop-i-test.true room c.write_at-e.ensures
-    (c.note_marked-bound.ensures.1 _ c.if-bound-c.true) (none-past _ c.note_marked-bound.ensures.1 c.if-bound-c.true))))
+    let room : c.loop-i.i < write_capacity = omega (arith, c.loop-i-test.true, c.requires.writes, writes-counted c.args.width c.args.at c.args.s.now) in
+    sym (of_none _ _ (sym (entry_past no_write c.loop-i.invariant (writes-counted c.args.width c.args.at c.args.s.now) _ c.requires.ascending c.loop-i-test.true room c.write_at-e.ensures
+    (c.note_marked-bound.ensures.by_index _ c.if-bound-c.true) (none-past _ c.note_marked-bound.ensures.by_index c.if-bound-c.true))))
     ∙ either_way _ _
 
 pub bounds-marked-c : goal.bounds-marked-c
-bounds-marked-c c = cell_below c
+bounds-marked-c c = rw c.write_at-e.ensures (c.requires.writes_below _ (rw (← writes-counted c.args.width c.args.at c.args.s.now) c.loop-i-test.true))
 
 pub returns-then-marked-c-eq1 : goal.returns-then-marked-c-eq1
 returns-then-marked-c-eq1 c =
-    let below = cell_below c in
-    let room = inside c in
-    sym (of_some _ _ _ (sym (entry_found no_write c.loop-i.invariant (writes-counted c.args.width c.args.at c.args.s.now) c.loop-i-test.true room c.write_at-e.ensures (told-marked _ c.note_marked-bound.ensures.0 below c.if-marked-c-eq1.true))))
+    let below : c.write_at-e.result.cell < 64 = rw c.write_at-e.ensures (c.requires.writes_below _ (rw (← writes-counted c.args.width c.args.at c.args.s.now) c.loop-i-test.true)) in
+    let room : c.loop-i.i < write_capacity = omega (arith, c.loop-i-test.true, c.requires.writes, writes-counted c.args.width c.args.at c.args.s.now) in
+    sym (of_some _ _ _ (sym (entry_found no_write c.loop-i.invariant (writes-counted c.args.width c.args.at c.args.s.now) c.loop-i-test.true room c.write_at-e.ensures (told-marked _ c.note_marked-bound.ensures.marked_after below c.if-marked-c-eq1.true))))
     ∙ either_way _ _
 
 pub loop-i-preserved : goal.loop-i-preserved
 loop-i-preserved c =
-    let below = cell_below c in
-    let room = inside c in
-    entry_next no_write c.loop-i.invariant c.loop-i-test.true room c.write_at-e.ensures (told-unmarked _ c.note_marked-bound.ensures.0 below c.if-marked-c-eq1.false)
+    let below : c.write_at-e.result.cell < 64 = rw c.write_at-e.ensures (c.requires.writes_below _ (rw (← writes-counted c.args.width c.args.at c.args.s.now) c.loop-i-test.true)) in
+    let room : c.loop-i.i < write_capacity = omega (arith, c.loop-i-test.true, c.requires.writes, writes-counted c.args.width c.args.at c.args.s.now) in
+    entry_next no_write c.loop-i.invariant c.loop-i-test.true room c.write_at-e.ensures (told-unmarked _ c.note_marked-bound.ensures.marked_after below c.if-marked-c-eq1.false)
 
 pub returns : goal.returns
 returns c =

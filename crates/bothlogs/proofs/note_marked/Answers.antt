@@ -1,5 +1,4 @@
 -- Before each turn the table has what the entries passed say of each cell, and above the bound none of them is marked.
-use mathlib.Core.Logic.{inl, inr}
 use mathlib.Core.Path.{◌≡◌}
 use Prim.Native.Nat.{◌<◌}
 use native.Mathlib.Omega.{arith}
@@ -9,20 +8,7 @@ use Rattle.packed.specs.Places.{slot_in}
 use Rattle.packed.proofs.InLog.{reads-counted, reads_sized}
 use Rattle.bothlogs.proofs.Overlap.{tabled_start, tabled-unmarked, tabled-marked, tabled-whole}
 use Rattle.bothlogs.proofs.note_marked.Goals as goal
-
--- a turn begins at an entry of the log
-inside : (c : tie.In-loop invariant-loop decreases-loop) → c.before.loop.i < read_capacity
-inside c =
-    let start = let c : tie.Start invariant-loop decreases-loop = search in c in
-    omega (arith, c.loop-test.taken, start.pre.0.reads, reads-counted start.args.width start.args.at start.args.s.now)
-
--- the entry that was read has a cell below 64
-cell_below : (c : tie.After-read-at invariant-loop decreases-loop) → c.read_at.result.cell < 64
-cell_below c =
-    let here = c.read_at.ensures in
-    let more = let c : tie.In-loop invariant-loop decreases-loop = search in c.loop-test.taken in
-    let start = let c : tie.Start invariant-loop decreases-loop = search in c in
-    rw here (start.pre.0.reads_below _ (rw (← reads-counted start.args.width start.args.at start.args.s.now) more))
+use Rattle.bothlogs.proofs.note_marked.Goals.{then-e, else-e}
 
 pub loop-i-init : goal.loop-i-init
 loop-i-init c =
@@ -31,19 +17,19 @@ loop-i-init c =
 
 pub read_at-e-requires : goal.read_at-e-requires
 read_at-e-requires c =
-    (c.requires.0.narrow, c.requires.0.size, inside c)
+    (c.requires.0.narrow, c.requires.0.size, omega (arith, c.loop-i-test.true, c.requires.0.reads, reads-counted c.args.width c.args.at c.args.s.now))
 
 pub bounds-marked-c : goal.bounds-marked-c
-bounds-marked-c c = cell_below c
+bounds-marked-c c = rw c.read_at-e.ensures (c.requires.0.reads_below _ (rw (← reads-counted c.args.width c.args.at c.args.s.now) c.loop-i-test.true))
 
 pub loop-i-preserved : goal.loop-i-preserved
 loop-i-preserved c =
-    let here-inside = inside c in
+    let here-inside : c.loop-i.i < read_capacity = omega (arith, c.loop-i-test.true, c.requires.0.reads, reads-counted c.args.width c.args.at c.args.s.now) in
     let room : c.loop-i.i < length (slot_in c.args.width c.args.at c.args.s.now).reads = rw (reads_sized c.args.width c.args.at c.args.s.now) here-inside in (
       omega arith,
-      elim c.if-e.came [
-        | inl on ↦ rw (on.3, on.4) (tabled-marked _ _ room c.loop-i.invariant.1 c.read_at-e.ensures on.0.taken on.2.ensures.0 on.2.ensures.1)
-        | inr off ↦ rw (off.1, off.2) (tabled-unmarked _ _ room c.loop-i.invariant.1 c.read_at-e.ensures off.0.left)
+      elim c.if-e.branch [
+        | then-e w ↦ rw (w.marked-is, w.bound-is) (tabled-marked _ _ room c.loop-i.invariant.1 c.read_at-e.ensures w.if-e.true w.covering-bound.ensures.0 w.covering-bound.ensures.1)
+        | else-e w ↦ rw (w.marked-is, w.bound-is) (tabled-unmarked _ _ room c.loop-i.invariant.1 c.read_at-e.ensures w.if-e.false)
       ],
     )
 

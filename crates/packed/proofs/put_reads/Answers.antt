@@ -18,6 +18,6 @@ pub loop-i-preserved : goal.loop-i-preserved
 loop-i-preserved c =
     let part : ℕ → List ℕ = (λ j. read_bytes (get_or c.args.v.reads j no_read)) in (
       omega arith,
-      c.put_read_entry.kept.0 ∙ c.loop-i.invariant.1,
+      c.put_read_entry.auto.s ∙ c.loop-i.invariant.1,
       splice-part read_size part (λ j. length-read_bytes (get_or c.args.v.reads j no_read)) c.args.s.now (c.args.at + 5 + 2 * c.args.width) c.loop-i.i c.loop-i.s c.put_read_entry.new.s (omega arith) c.loop-i.invariant.2 c.put_read_entry.ensures,
     )

@@ -18,6 +18,6 @@ pub loop-i-preserved : goal.loop-i-preserved
 loop-i-preserved c =
     let part : ℕ → List ℕ = (λ j. write_bytes (get_or c.args.v.writes j no_write)) in (
       omega arith,
-      c.put_write_entry.kept.0 ∙ c.loop-i.invariant.1,
+      c.put_write_entry.auto.s ∙ c.loop-i.invariant.1,
       splice-part write_size part (λ j. length-write_bytes (get_or c.args.v.writes j no_write)) c.args.s.now (c.args.at + 5 + 2 * c.args.width + 96) c.loop-i.i c.loop-i.s c.put_write_entry.new.s (omega arith) c.loop-i.invariant.2 c.put_write_entry.ensures,
     )

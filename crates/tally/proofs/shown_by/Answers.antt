@@ -35,4 +35,4 @@ returns-in-14 c =  rw (c.if-code-ne0.false, c.in-14.is)
 pub returns-in_default : goal.returns-in_default
 unfolding shown_by
 returns-in_default c =
-    rw (c.if-code-ne0.false, ne_eqb _ 1 c.in_default.in_default-own.rest.0.0.0.0.1, ne_eqb _ 2 c.in-1.rest.0.0.0.1, ne_eqb _ 10 c.in-1.rest.0.0.1, ne_eqb _ 12 c.in-1.rest.0.1, ne_eqb _ 14 c.in-1.rest.1)
+    rw (c.if-code-ne0.false, ne_eqb _ 1 c.in_default.in_default-own.rest.0.0.0.0.1, ne_eqb _ 2 c.in_default.in_default-own.rest.0.0.0.1, ne_eqb _ 10 c.in_default.in_default-own.rest.0.0.1, ne_eqb _ 12 c.in_default.in_default-own.rest.0.1, ne_eqb _ 14 c.in_default.in_default-own.rest.1)
