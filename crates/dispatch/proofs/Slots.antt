@@ -70,10 +70,10 @@ module _ (S : State) (slot : ℕ) (d : Decoded) {r : Reply} {l l' : List ℕ} (l
   way-made told did = rw told (onward (there slot _ low high) (rw sub-one at did))
 
 -- neither a write nor an update without its value, and not a step: a number that no step has
-pub way_unknown : (S : State) (slot : ℕ) (d : Decoded) (l : List ℕ) → OneOf (0 ∷ 2 ∷ 3 ∷ []) (tag_of the_type d) → OneOf (0 ∷ 1 ∷ 3 ∷ []) (tag_of the_type d)
-    → OneOf (1 ∷ 2 ∷ 3 ∷ []) (tag_of the_type d) → Did (step_of controller S slot d) l NoSuchStep l
+pub way_unknown : (S : State) (slot : ℕ) (d : Decoded) (l : List ℕ) → ((c : ℕ) → d ≡ IllegalWrite c → ⊥) → ((c : ℕ) → d ≡ IllegalUpdate c → ⊥)
+    → ((s : Step) → d ≡ Made s → ⊥) → Did (step_of controller S slot d) l NoSuchStep l
 unfolding step_of
-way_unknown S slot (Made s) l a b k = absurd (miss (1 ∷ 2 ∷ 3 ∷ []) 0 tt k)
-way_unknown S slot (IllegalWrite c) l a b k = absurd (miss (0 ∷ 2 ∷ 3 ∷ []) 1 tt a)
-way_unknown S slot (IllegalUpdate c) l a b k = absurd (miss (0 ∷ 1 ∷ 3 ∷ []) 2 tt b)
+way_unknown S slot (Made s) l a b k = absurd (k s refl)
+way_unknown S slot (IllegalWrite c) l a b k = absurd (a c refl)
+way_unknown S slot (IllegalUpdate c) l a b k = absurd (b c refl)
 way_unknown S slot Unknown l a b k = refuses l refl

@@ -12,13 +12,13 @@ use Rattle.fresh.proofs.all_legal.Goals as goal
 pub returns-then-not-legal : goal.returns-then-not-legal
 returns-then-not-legal c =
     let ds = c.args.ds.now in
-    let test = ap legal_cell (sym (c.described-x.ensures ∙ sym (described-at ds c.loop-k.k (omega arith)))) ∙ sym c.legal.ensures ∙ not-true _ c.if-not-legal.true in
+    let test = ap legal_cell (sym (c.described-x.ensures ∙ sym (described-at ds c.loop-k.k (omega arith)))) ∙ sym c.legal.ensures ∙ c.if-not-legal.true in
     sym (c.loop-k.invariant.1 ∙ all-failed legal_cell no_cell (described_cells ds) c.loop-k.k (rw (described-length ds) (omega arith)) test)
 
 pub loop-k-preserved : goal.loop-k-preserved
 loop-k-preserved c =
     let ds = c.args.ds.now in
-    let test = ap legal_cell (sym (c.described-x.ensures ∙ sym (described-at ds c.loop-k.k (omega arith)))) ∙ sym c.legal.ensures ∙ not-false _ c.if-not-legal.false in
+    let test = ap legal_cell (sym (c.described-x.ensures ∙ sym (described-at ds c.loop-k.k (omega arith)))) ∙ sym c.legal.ensures ∙ c.if-not-legal.false in
     (omega arith, c.loop-k.invariant.1 ∙ all-passed legal_cell no_cell (described_cells ds) c.loop-k.k (rw (described-length ds) (omega arith)) test)
 
 pub returns : goal.returns

@@ -3,6 +3,7 @@ use Prim.Native.Nat.{◌<◌, ◌≤◌}
 use native.Mathlib.Omega.{arith}
 use borrow.Author.Tests.{lt-leb, le-leb}
 use Rattle.slot.specs.Layout.{write_capacity}
+use Rattle.slot.specs.Logic.{◌and◌}
 use Rattle.slot.proofs.Logic.{and-false}
 use Rattle.slot.proofs.Search.{write-has, write-lacks}
 use Rattle.rules.specs.State.{slot_at}

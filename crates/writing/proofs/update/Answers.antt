@@ -1,5 +1,6 @@
 -- Only a slot in twilight updates, a cell that its write log has, to a value of its kind: the write log with the new value is stored.
-use mathlib.Core.Path.{refl}
+use mathlib.Core.Bool.{not}
+use mathlib.Core.Path.{refl, ap}
 use Rattle.slot.proofs.Laws.Fields.{writable-alone, written-alone}
 use Rattle.rules.proofs.AreaRead.{count-read}
 use Rattle.rules.specs.Model.{controller}
@@ -13,27 +14,6 @@ use Rattle.writing.proofs.Ways.{Asked, asked, Fits, fits, updated-stands, update
 use Rattle.writing.proofs.Room.{writable-again}
 use Rattle.writing.proofs.update.Goals as goal
 
--- what is known where the value was asked
-asked-at : (c : tie.After-legal) → let start = let c : tie.Start = search in c in
-    Asked (state_in start.args.s.now) start.args.i start.args.cell 3 start.args.to (let c : tie.After-kind = search in c.kind.result) (let c : tie.After-word = search in c.word.result) c.legal.result
-asked-at c =
-    let phase-at = let c : tie.After-phase-at = search in c.phase-at.ensures in
-    let if1 = let c : tie.Else1 = search in c.if1.left in
-    let count = let c : tie.After-count = search in c.count.ensures in
-    let if2 = let c : tie.Else2 = search in c.if2.left in
-    let kind = let c : tie.After-kind = search in c.kind.ensures in
-    let word = let c : tie.After-word = search in c.word.ensures in
-    asked phase-at if1 count if2 kind word c.legal.ensures
-
--- what is known where it was found to fit
-fits-at : (c : tie.Else4) → let start = let c : tie.Start = search in c in
-    Fits (state_in start.args.s.now) start.args.i start.args.cell 3 start.args.to (let c : tie.After-word = search in c.word.result)
-fits-at c =
-    let asked = let c : tie.After-legal = search in asked-at c in
-    let if3 = let c : tie.Else3 = search in c.if3.left in
-    let cell-at = let c : tie.After-cell-at = search in c.cell-at.ensures in
-    fits asked if3 cell-at c.if4.left
-
 pub returns-then-phase_at-ne3 : goal.returns-then-phase_at-ne3
 returns-then-phase_at-ne3 c = refuses _ (update-4 controller _ _ _ _ (other c.phase_at.ensures c.if-phase_at-ne3.true))
 
@@ -43,8 +23,8 @@ returns-then-count-cell c =
 
 pub returns-then-not-legal : goal.returns-then-not-legal
 returns-then-not-legal c =
-    let asked = asked-at c in
-    refuses _ (update-6 controller _ _ _ _ asked c.if-not-legal.true)
+    let value = asked c.phase_at.ensures c.if-phase_at-ne3.false c.count.ensures c.if-count-cell.false c.kind-kind.ensures c.word-word.ensures c.legal.ensures in
+    refuses _ (update-6 controller _ _ _ _ value (ap not c.if-not-legal.true))
 
 pub cell_at-x-requires : goal.cell_at-x-requires
 cell_at-x-requires c =
@@ -52,13 +32,14 @@ cell_at-x-requires c =
 
 pub returns-then-kind-x : goal.returns-then-kind-x
 returns-then-kind-x c =
-    let asked = asked-at c in
-    refuses _ (update-7 controller _ _ _ _ asked c.if-not-legal.false c.cell_at-x.ensures c.if-kind-x.true)
+    let value = asked c.phase_at.ensures c.if-phase_at-ne3.false c.count.ensures c.if-count-cell.false c.kind-kind.ensures c.word-word.ensures c.legal.ensures in
+    refuses _ (update-7 controller _ _ _ _ value (ap not c.if-not-legal.false) c.cell_at-x.ensures c.if-kind-x.true)
 
 pub returns-in_default : goal.returns-in_default
 returns-in_default c =
-    let fits = fits-at c in
-    refuses _ (update-8 controller _ _ _ _ fits c.find_write.ensures c.in_default.is)
+    let value = asked c.phase_at.ensures c.if-phase_at-ne3.false c.count.ensures c.if-count-cell.false c.kind-kind.ensures c.word-word.ensures c.legal.ensures in
+    let fitting = fits value (ap not c.if-not-legal.false) c.cell_at-x.ensures c.if-kind-x.false in
+    refuses _ (update-8 controller _ _ _ _ fitting c.find_write.ensures c.in_default.is)
 
 pub written-requires : goal.written-requires
 written-requires c =
@@ -76,6 +57,7 @@ store_writes-requires-clause-v_value c =
 
 pub returns : goal.returns
 returns c =
-    let fits = fits-at c in
+    let value = asked c.phase_at.ensures c.if-phase_at-ne3.false c.count.ensures c.if-count-cell.false c.kind-kind.ensures c.word-word.ensures c.legal.ensures in
+    let fitting = fits value (ap not c.if-not-legal.false) c.cell_at-x.ensures c.if-kind-x.false in
     let v = lay (slot_at (state_in c.args.s.now) c.args.i) in
-    leaves _ (update-0 controller _ _ _ _ fits c.find_write.ensures c.in-Entry.is (written-alone v _ c.writes_at-v.ensures c.written.ensures)) c.store_writes.ensures
+    leaves _ (update-0 controller _ _ _ _ fitting c.find_write.ensures c.in-Entry.is (written-alone v _ c.writes_at-v.ensures c.written.ensures)) c.store_writes.ensures
