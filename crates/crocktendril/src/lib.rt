@@ -8,8 +8,7 @@ ghost use Rattle.crocktendril.specs.Contract.{Stepped};
 use call::Reply;
 
 // Makes one step. Answers code × 2^40 + kind × 2^32 + word.
-#[unsafe(no_mangle)]
-pub extern "C" fn crocktendril_step(
+pub fn crocktendril_step(
     s: &mut [u8],
     step: u8,
     slot: u8,
@@ -27,8 +26,7 @@ pub extern "C" fn crocktendril_step(
 }
 
 // Lays out a fresh area from descriptions of 5 bytes. Answers the plain code.
-#[unsafe(no_mangle)]
-pub extern "C" fn crocktendril_lay_out(s: &mut [u8], descriptions: &[u8]) -> u64
+pub fn crocktendril_lay_out(s: &mut [u8], descriptions: &[u8]) -> u64
     ensures { LaidOut s.old descriptions.now result s.new }
 {
     fresh::lay_out(s, descriptions) as u64

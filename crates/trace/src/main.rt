@@ -1,16 +1,17 @@
 // Runs the step sheet on standard input, and writes its effects to standard output, a line each.
 #![tactic(auto)]
-use libc::{STDIN_FILENO, STDOUT_FILENO};
 use stage::Ran;
+use std::io;
+use std::io::Write;
 
-fn main() {
+fn main(rt: HostRuntime) -> io::Result<()> {
     let mut input = [0u8; stage::MOST_INPUT];
-    let count = io::read_full(STDIN_FILENO, &mut input);
+    let count = intake::read_full(&mut rt.stdin(), &mut input)?;
     let mut area = [0u8; stage::MOST_AREA];
     let mut out = [0u8; effects::MOST_TRACE];
     let ran = effects::trace_sheet(&input[..count], &mut area, &mut out);
     let Ran::Written(end) = ran else {
-        return;
+        return Ok(());
     };
-    io::write_all(STDOUT_FILENO, &out[..end]);
+    io::writer(&rt).write_all(&out[..end])
 }

@@ -19,8 +19,7 @@ const NOT_OPEN_AND_EMPTY: u64 = 4;
 
 // Levels the wear set: reads its cells for the open transaction of the slot, picks a group and writes its count plus one. Answers
 // place × 2^48 + code × 2^40 + kind × 2^32 + word.
-#[unsafe(no_mangle)]
-pub extern "C" fn crocktendril_wear(s: &mut [u8], set: &[u8], slot: u8) -> u64
+pub fn crocktendril_wear(s: &mut [u8], set: &[u8], slot: u8) -> u64
     ensures { Worn s.old set.now slot result s.new }
 {
     if !wellformed::well_formed(s) {

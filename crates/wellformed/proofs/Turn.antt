@@ -66,12 +66,12 @@ module _ (a : List ℕ) (f : Framed (count_in a) a) where
     here : Claimed a (held a k) (suc k) r before after
     here = rw (place, add-one k) at claimed
 
-    pub turn-wrong : k < 8 → not r ≡ true → (b : Bool) → false ≡ (b and area_holders_right controller a)
+    pub turn-wrong : k < 8 → r ≡ false → (b : Bool) → false ≡ (b and area_holders_right controller a)
     turn-wrong h p b =
         let wrong : false ≡ area_holders_right controller a = holders-no (count_in a) (holder_in a) (held a) 8 k h (fails here.right p) ∙ holders-places in
         sym (and-false b) ∙ ap (λ (x : Bool). b and x) wrong
 
-    pub turn-right : not r ≡ false → Passed a k before → Passed a (k + 1) after
+    pub turn-right : r ≡ true → Passed a k before → Passed a (k + 1) after
     turn-right p passed =
         let now = passes here.right p in
         record {
