@@ -4,8 +4,6 @@ use mathlib.Core.Path.{◌≡◌, refl, ap}
 use Prim.Native.Nat.{ℕ, ◌+◌, ◌<◌, ◌≤◌}
 use native.Mathlib.Numerals.{add-one}
 use native.Mathlib.Omega.{arith}
-use types.Run.{OneOf, miss}
-use denote.Enum.Declared.{tag_of}
 use lib.ListN.{length, take, get_or, length-take}
 use lib.Seq.{take-suc, take_all, get_or-take}
 use Rattle.slot.specs.Layout.{no_write}
@@ -15,7 +13,6 @@ use Rattle.line.specs.Line.{field}
 use Rattle.tally.specs.declared.Shown.{Shown}
 use Rattle.tally.specs.declared.Shown.TheVariants.{Begun, Read, Reloaded, Committed, Aborted, Nothing}
 use Rattle.telling.specs.Parts.{rest_parts, line_parts, effect_parts}
-use Rattle.tally.specs.contracts.Shown.{the_type}
 
 -- the fields of a log's cells
 abbrev pub fields_of : List WriteEntry → List (List ℕ)
@@ -34,21 +31,20 @@ module _ (log : List WriteEntry) (n i : ℕ) where
   cells-all h = ap fields_of (take_all i (take n log) h)
 
 -- what is neither a read nor a commit has nothing behind its number
-pub no-rest : (shown : Shown) (cell : ℕ) (v : SlotRecord) → OneOf (0 ∷ 2 ∷ 3 ∷ 4 ∷ 5 ∷ []) (tag_of the_type shown)
-    → OneOf (0 ∷ 1 ∷ 2 ∷ 4 ∷ 5 ∷ []) (tag_of the_type shown) → rest_parts shown cell v ≡ []
+pub no-rest : (shown : Shown) (cell : ℕ) (v : SlotRecord) → (shown ≡ Read → ⊥) → (shown ≡ Committed → ⊥) → rest_parts shown cell v ≡ []
 no-rest Begun cell v p q = refl
-no-rest Read cell v p q = absurd (miss (0 ∷ 2 ∷ 3 ∷ 4 ∷ 5 ∷ []) 1 tt p)
+no-rest Read cell v p q = absurd (p refl)
 no-rest Reloaded cell v p q = refl
-no-rest Committed cell v p q = absurd (miss (0 ∷ 1 ∷ 2 ∷ 4 ∷ 5 ∷ []) 3 tt q)
+no-rest Committed cell v p q = absurd (q refl)
 no-rest Aborted cell v p q = refl
 no-rest Nothing cell v p q = refl
 
 -- what is shown has a line
-pub line-parts : (shown : Shown) (slot number cell : ℕ) (v : SlotRecord) → OneOf (0 ∷ 1 ∷ 2 ∷ 3 ∷ 4 ∷ []) (tag_of the_type shown)
+pub line-parts : (shown : Shown) (slot number cell : ℕ) (v : SlotRecord) → (shown ≡ Nothing → ⊥)
     → line_parts shown slot number cell v ≡ effect_parts shown slot number cell v
 line-parts Begun slot number cell v h = refl
 line-parts Read slot number cell v h = refl
 line-parts Reloaded slot number cell v h = refl
 line-parts Committed slot number cell v h = refl
 line-parts Aborted slot number cell v h = refl
-line-parts Nothing slot number cell v h = absurd (miss (0 ∷ 1 ∷ 2 ∷ 3 ∷ 4 ∷ []) 5 tt h)
+line-parts Nothing slot number cell v h = absurd (h refl)

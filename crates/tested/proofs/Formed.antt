@@ -10,7 +10,8 @@ use Rattle.rules.specs.Model.{controller}
 use Rattle.rules.specs.State.{State}
 use Rattle.rules.specs.LogsRight.{cell_right, logged_right, reads_right, writes_right, commit_between, stamps_apart, holders_right, cell_count_right}
 use Rattle.rules.specs.StateRight.{logs_right, slot_right, holds, shape_right, state_right_but_holders, state_holders_right, state_right}
-use Rattle.rules.specs.Step.{Call}
+use Rattle.rules.specs.Outcome.{after}
+use Rattle.rules.specs.Step.{Call, step}
 use Rattle.rules.specs.Run.{end_state}
 use Rattle.rules.specs.Edges.{two, seventeen}
 use Rattle.rules.proofs.Open.{computed}
@@ -38,4 +39,4 @@ seventeen-right = refl
 pub end-right : (S : State) (calls : List Call) → state_right controller S ≡ true → state_right controller (end_state controller S calls) ≡ true
 unfolding end_state
 end-right S [] right = right
-end-right S (call ∷ calls) right = end-right _ calls ((keeps controller controller-fits).state_kept S call right)
+end-right S (call ∷ calls) right = end-right (after S (step controller S call)) calls ((keeps controller controller-fits).state_kept S call right)
