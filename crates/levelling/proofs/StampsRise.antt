@@ -1,5 +1,5 @@
 -- Along a history from rest no cell's stamp falls: only a publish changes it, to a commit stamp above it.
-use mathlib.Core.List.{List, [], ◌∷◌}
+use mathlib.Core.List.{List, [], ◌∷◌, ◌++◌}
 use Prim.Native.Nat.{ℕ, pred, ◌<◌, ◌≤◌}
 use native.Mathlib.Omega.{arith}
 use lib.ListN.{length}
@@ -10,9 +10,10 @@ use Rattle.rules.specs.declared.Cell.{Cell}
 use Rattle.rules.specs.Model.{Model}
 use Rattle.rules.specs.State.{State, cell_at, no_cell}
 use Rattle.rules.specs.Cells.{published_as}
-use Rattle.rules.specs.Outcome.{after}
+use Rattle.rules.specs.Outcome.{after, reply_of}
 use Rattle.rules.specs.Step.{Call, step}
-use Rattle.history.specs.History.{final, Commit, SharedRead, log_at}
+use Rattle.history.specs.History.{Event, final, Commit, SharedRead, log_at}
+use Rattle.history.proofs.Record.{commit_in, read_in}
 use Rattle.history.proofs.Move.{Move, began, read-written, read_again, read_first, wrote, closed, locked, entered, reread-done, updated, ask-done, reloading, ignored, nothing-to-ignore, aborted, committed, published, gave-up}
 use Rattle.history.proofs.StepCase.{step_case}
 use Rattle.history.proofs.Invariant.{Inv}
@@ -65,5 +66,6 @@ module _ (M : Model) (start : State) where
   stamps-rise L R S along [] c = omega arith
   stamps-rise L R S along (a ∷ calls) c =
       let first = call-rises L R S along a c in
-      let rest = stamps-rise _ _ (after S (step M S a)) (along-step M start L R S along a) calls c in
+      let e : Event = record { before = S; call = a; reply = reply_of (step M S a) } in
+      let rest = stamps-rise (L ++ commit_in e) (R ++ read_in e) (after S (step M S a)) (along-step M start L R S along a) calls c in
       omega arith

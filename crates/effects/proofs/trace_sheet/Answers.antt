@@ -2,46 +2,43 @@
 use mathlib.Core.Path.{sym}
 use native.Mathlib.Omega.{arith}
 use lib.Seq.{length-take-le}
-use Rattle.stage.proofs.Ready.{ReadySheet, when-ready, when-bad, when-short}
+use Rattle.stage.proofs.Ready.{when-ready, when-bad, when-short}
 use Rattle.stage.proofs.Printing.{short-out, short-area, bad-run}
 use Rattle.effects.specs.Traced.{traced, most_trace}
 use Rattle.effects.proofs.Whole.{bad-trace, traced-on}
 use Rattle.effects.proofs.trace_sheet.Goals as goal
-
--- what is known where the sheet is ready
-ready_at : (c : tie.After-stage) → let start = let c : tie.Start = search in c in let set = let c : tie.After-set-up = search in c.set-up in
-    ReadySheet start.args.sheet.now start.args.area.now c.stage.given.0.0 c.stage.given.0.1.0 c.stage.given.0.1.1.0 set.last.1.0
-ready_at c =
-    let is = c.stage.given.1 in
-    let c : tie.After-set-up = search in when-ready c.set-up.ensures is
 
 pub returns-then-out-lt-MOST_TRACE : goal.returns-then-out-lt-MOST_TRACE
 returns-then-out-lt-MOST_TRACE c = short-out _ _ _ _ _ (omega arith)
 
 pub slice_bounds-trace_steps-count : goal.slice_bounds-trace_steps-count
 slice_bounds-trace_steps-count c =
-    let told = ready_at c in
+    let told = when-ready c.set_up-stage.ensures c.in-Ready.is in
     omega arith
 
 pub slice_bounds-trace_steps-start : goal.slice_bounds-trace_steps-start
-slice_bounds-trace_steps-start c = ?
+slice_bounds-trace_steps-start c =
+    let told = when-ready c.set_up-stage.ensures c.in-Ready.is in
+    omega arith
 
 pub slice_bounds-trace_steps-end : goal.slice_bounds-trace_steps-end
-slice_bounds-trace_steps-end c = ?
+slice_bounds-trace_steps-end c =
+    let told = when-ready c.set_up-stage.ensures c.in-Ready.is in
+    omega arith
 
 pub slice_bounds-trace_steps-end-in-Ready : goal.slice_bounds-trace_steps-end-in-Ready
 slice_bounds-trace_steps-end-in-Ready c =
-    let told = ready_at c in
+    let told = when-ready c.set_up-stage.ensures c.in-Ready.is in
     omega arith
 
 pub slice_bounds-trace_steps-end-in-Ready-2 : goal.slice_bounds-trace_steps-end-in-Ready-2
 slice_bounds-trace_steps-end-in-Ready-2 c =
-    let told = ready_at c in
+    let told = when-ready c.set_up-stage.ensures c.in-Ready.is in
     sym (length-take-le _ _ told.fits)
 
 pub returns-in-Ready : goal.returns-in-Ready
 returns-in-Ready c =
-    let told = ready_at c in
+    let told = when-ready c.set_up-stage.ensures c.in-Ready.is in
     traced-on _ _ _ (omega arith) told c.trace_steps.auto.area c.trace_steps.ensures
 
 pub returns-in-Bad : goal.returns-in-Bad
