@@ -20,7 +20,7 @@ BEGAN := $(shell date +%s)
 LIBRARY := target/staticlib/libcrocktendril.a
 WEAR := target/staticlib/libwear.a
 # The crates that the library of a crate is made of, and their files. Folders count as files: one that lost a file is newer.
-crates = $(1) $(shell sed -n 's/^$(1): //p' crates.txt)
+crates = $(1) $(shell sed -n 's/^$(1)\( staticlib\)*: //p' crates.txt)
 sources = $(shell find crates.txt $(wildcard $(foreach part,src specs proofs,$(patsubst %,crates/%/$(part),$(call crates,$(1))))))
 STRICT := -pedantic -Wall -Wextra -Werror -O2 -Iinclude
 LINKED := oracle/linked/target/release
@@ -28,15 +28,14 @@ PROGRAM := target/bin/run
 TRACER := target/bin/trace
 SECOND := oracle/target/release
 # the crates that ask nothing of a caller
-BOUNDARIES := value call line apart stage sheet run tally telling effects trace crocktendril wear
+BOUNDARIES := value call line apart stage sheet intake run tally telling effects trace crocktendril crocktendril_c wear wear_c
 # the blocks of the guide that are marked so, one behind the other
 blocks = awk '/^```$(1)$$/ { on = 1; next } /^```$$/ { on = 0 } on' docs/GUIDE.md
 
 .PHONY: test lib program proved-run proved-trace example guide guide-sheets fuzz bench run trace sheet timeline second linked linked-test sheets-test
 
 test:
-	@echo "== layout of the sources"
-	rt fmt --check
+	@echo "== layout of the second program (rt ci looks at that of the crates)"
 	cd oracle && cargo fmt --check
 	@echo "== nothing is asked of a caller at the boundaries"
 	! grep -rnw requires $(foreach name,$(BOUNDARIES),$(wildcard crates/$(name)/src crates/$(name)/specs))
@@ -47,26 +46,30 @@ test:
 	python3 tools/edit_logs.py texts
 	@echo "== the second program: its tests"
 	cd oracle && cargo test --release --offline --quiet
-	@echo "== proofs, must-fail edits, the libraries and what is linked with them (10 minutes and more)"
+	@echo "== proofs, must-fail edits, the libraries and what is linked with them (the first run on a machine takes long)"
 	@BEGAN=$(BEGAN) tools/gate
 
+# A static library is a crate of its own, NAME_c, over the library NAME; its archive has the library's name.
+archive = cd crates/$(1)_c && rt lib && mkdir -p ../../target/staticlib && cp out/lib$(1)_c.a ../../target/staticlib/lib$(1).a
+
 lib:
-	rt staticlib crocktendril
-	rt staticlib wear
+	$(call archive,crocktendril)
+	$(call archive,wear)
 	@echo "the libraries are $(LIBRARY) and $(WEAR)"
 
 # where one is asked for, and is missing or older than what it is made of
-$(LIBRARY): $(call sources,crocktendril)
-	rt staticlib crocktendril
+$(LIBRARY): $(call sources,crocktendril_c)
+	$(call archive,crocktendril)
 
-$(WEAR): $(call sources,wear)
-	rt staticlib wear
+$(WEAR): $(call sources,wear_c)
+	$(call archive,wear)
 
 program: proved-run proved-trace
 
 proved-run proved-trace: proved-%:
 	@echo "== the program $*, for step sheets: proofs and build (minutes from nothing, seconds if nothing has changed)"
-	rt check $*
+	@mkdir -p target/bin
+	cd crates/$* && rt run < stdin > /dev/null && cp out/$* ../../target/bin/$*
 
 # The libraries link in either order.
 example: $(LIBRARY) $(WEAR)

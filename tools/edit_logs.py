@@ -1,67 +1,35 @@
-"""Reads the log of each must-fail edit and fails if an edit was not refused at the fact that it names.
+"""Reads from the log of rt ci how each must-fail edit was refused, and fails if one was not refused at the goal that it names.
 
-An edit counts where a fact no longer holds, so its file says which: `# need: FUNCTION NEED` is the definition in the function's
-proof file (crates/C/proofs/FUNCTION/Proof.antt) at which the first error has to stand, or `# need: FUNCTION itself` where the
-function has no proof file. Refused somewhere else (an index bound, an overflow, a law) or for its shape alone (the proof file
-does not fit the code any more, or the code is no Rattle at all), the edit shows nothing.
+An edit counts where a fact no longer holds, so its file says which: `# need: FUNCTION GOAL` is the goal of the function (the folder
+crates/C/proofs/FUNCTION, if it has one) at which the refusal has to stand: at the goal's answer, or, where it has none, in the line
+of the source that asks for it. Refused somewhere else (an index bound, an overflow, a law) or for its shape alone (a name that is
+not there, no Rattle at all), the edit shows nothing.
 
-With the word `texts` it reads no log: each edit has to name its need, and each text that it exchanges has to stand exactly once in
-its file. That takes no time, so it comes before the proofs.
+With the word `texts` in place of the log's name it reads no log: each edit has to name its goal, and each text that it exchanges
+has to stand exactly once in its file. That takes no time, so it comes before the proofs.
 """
 import glob
 import os
 import re
 import sys
 
-# what an edit that only changed the shape is refused with
-SHAPE = [
-    r'has no `Need-[^`]*` that can be named from here',
-    r'expected type `tie\.Need-',
-    r'is not in scope',
-    r'\b(Parse|Scope|syntax)\b',
-]
-# the first error of a definition, and where it stands
-ERROR = re.compile(r'^(?P<file>\S+?):(?P<line>\d+):\d+: (?:error|[A-Z]\w+):')
-# no fact of its own: a definition that rests on a refused one
-KNOCK_ON = re.compile(r'was not admitted .* so this cannot be checked$')
-# the line of a function that has no proof file, where the search for a proof fails
-UNPROVED = re.compile(r'^fn .*: no proof: expected \S+ in \S*/proofs/(?P<function>\S+)/Proof\.antt; .*does not close')
+# the line of rt ci about an edit that was refused
+REFUSED = re.compile(r'^rt: must-fail (?P<edit>\S+/\S+\.edit): refused, as it must be: (?P<how>.*)$')
+# at a goal's answer, or at the line of the source that asks for a goal that has none
+ANSWERED = re.compile(r'^\./proofs/(?P<function>\S+)/Answers\.antt:\d+:\d+: error: `(?P<goal>[^`]+)`')
+ASKED = re.compile(r'^note: (?P<file>src/\S+\.rt):(?P<line>\d+):\d+: .*\(`(?P<goal>[^`]+)`\)')
 NAMED = re.compile(r'^# need: (\S+ \S+)$', re.M)
-UNNAMED = 'it has to say once which need must refuse it: # need: FUNCTION NEED'
+UNNAMED = 'it has to say once which goal must refuse it: # need: FUNCTION GOAL'
 
 
-def first_error(text):
-    """The first line that refuses the edit by itself, or None."""
-    for line in text.split('\n'):
-        if UNPROVED.match(line) or ERROR.match(line) and not KNOCK_ON.search(line):
-            return line
-    return None
-
-
-def definition(path, number):
-    """The name of the definition in which the line stands: the last signature at or above it."""
-    with open(path, encoding='utf-8') as file:
-        lines = file.read().split('\n')[:number]
-    names = [match.group(1) for line in lines for match in [re.match(r'(?:abbrev |unfoldable |pub )*(\S+) :', line)] if match]
-    return names[-1] if names else None
-
-
-def refused_at(line):
-    """The function and the need at which an error line stands, or None where it stands in no function's proof."""
-    unproved = UNPROVED.match(line)
-    if unproved:
-        return unproved.group('function') + ' itself'
-    error = ERROR.match(line)
-    proof = re.search(r'/proofs/(\S+)/Proof\.antt$', error.group('file'))
-    if not proof:
-        return None
-    return '%s %s' % (proof.group(1), definition(error.group('file'), int(error.group('line'))))
+def text_of(path):
+    with open(path, encoding='utf-8', errors='replace') as file:
+        return file.read()
 
 
 def need(edit):
-    """The need that an edit names, or None if it names none or more than one."""
-    with open(edit, encoding='utf-8') as file:
-        named = NAMED.findall(file.read())
+    """The function and the goal that an edit names, or None if it names none or more than one."""
+    named = NAMED.findall(text_of(edit))
     return named[0] if len(named) == 1 else None
 
 
@@ -69,10 +37,8 @@ def text_fault(edit):
     """What is wrong with the text of one edit, or None. A `file:` line holds for the `old:` lines after it."""
     if need(edit) is None:
         return UNNAMED
-    with open(edit, encoding='utf-8') as file:
-        lines = file.read().split('\n')
     path, exchanged = None, 0
-    for line in lines:
+    for line in text_of(edit).split('\n'):
         key, _, text = line.partition(': ')
         if key == 'file':
             path = os.path.join(os.path.dirname(os.path.dirname(edit)), text)
@@ -81,42 +47,55 @@ def text_fault(edit):
         elif key == 'old':
             if path is None:
                 return 'no file: line before old: ' + text
-            with open(path, encoding='utf-8') as file:
-                times = file.read().count(text)
+            times = text_of(path).count(text)
             if times != 1:
                 return 'this stands %d times in %s: %s' % (times, path, text)
             exchanged += 1
     return None if exchanged else 'it exchanges nothing: no old: line'
 
 
-def fault(edit):
+def function_at(path, number):
+    """The name of the function in which a line of the source stands: the last `fn` at or above it. An edit keeps the lines' numbers."""
+    names = [match.group(1) for line in text_of(path).split('\n')[:number] for match in [re.match(r'\s*(?:pub )?(?:extern "C" )?fn (\w+)', line)] if match]
+    return names[-1] if names else None
+
+
+def refused_at(crate, how):
+    """The last name of the function and the goal at which an edit was refused, or None where that is no goal of a function."""
+    answered = ANSWERED.match(how)
+    if answered:
+        return answered.group('function').split('/')[-1], answered.group('goal')
+    asked = ASKED.match(how)
+    if asked:
+        return function_at(os.path.join('crates', crate, asked.group('file')), int(asked.group('line'))), asked.group('goal')
+    return None
+
+
+def fault(edit, refusals):
     """What is wrong with the refusal of one edit, or None."""
-    crate, label = edit.split(os.sep)[1], os.path.basename(edit)[:-len('.edit')]
+    crate, label = edit.split(os.sep)[1], os.path.basename(edit)
     named = need(edit)
     if named is None:
         return UNNAMED
-    path = os.path.join('target', 'must-fail', crate, label, '.log')
-    if not os.path.exists(path):
-        return 'no log: the edit was not tried'
-    with open(path, encoding='utf-8', errors='replace') as log:
-        line = first_error(log.read())
-    if line is None:
-        return 'the log has no error'
-    for shape in SHAPE:
-        if re.search(shape, line):
-            return 'refused for its shape alone: ' + line[:200]
-    at = refused_at(line)
-    if at != named:
-        return 'refused first at %s, not at %s: %s' % (at or 'no proof of a function', named, line[:200])
+    how = refusals.get('%s/%s' % (crate, label))
+    if how is None:
+        return 'the log has no line that it was refused'
+    at = refused_at(crate, how)
+    function, goal = named.split(' ')
+    if at != (function.split('/')[-1], goal):
+        return 'refused at %s, not at %s: %s' % (' '.join(map(str, at)) if at else 'no goal of a function', named, how[:200])
     return None
 
 
 def main():
-    judge, right = fault, 'refused first at the need that they name'
-    if sys.argv[1:] == ['texts']:
-        judge, right = text_fault, 'naming a need and exchanging a text that stands once'
-    elif sys.argv[1:]:
-        sys.exit('edit_logs.py [texts]')
+    if len(sys.argv) != 2:
+        sys.exit('edit_logs.py LOG, or edit_logs.py texts')
+    if sys.argv[1] == 'texts':
+        judge, right = text_fault, 'naming a goal and exchanging a text that stands once'
+    else:
+        lines = [REFUSED.match(line) for line in text_of(sys.argv[1]).split('\n')]
+        refusals = {line.group('edit'): line.group('how') for line in lines if line}
+        judge, right = lambda edit: fault(edit, refusals), 'refused at the goal that they name'
     edits = sorted(glob.glob(os.path.join('crates', '*', 'must-fail', '*.edit')))
     faults = [(edit, why) for edit in edits for why in [judge(edit)] if why]
     for edit, why in faults:

@@ -1,5 +1,6 @@
 // A step sheet taken apart. Any bytes are taken.
 #![tactic(auto)]
+
 ghost use Rattle.std.specs.Prelude.{◌≡◌, ◌<◌, drop};
 ghost use Rattle.wire.specs.Field.{be};
 ghost use Rattle.apart.specs.Apart.{byte_at, step_word, described_right, steps_right, taken_apart};

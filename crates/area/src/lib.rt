@@ -1,5 +1,6 @@
 // The lent area, read in place: the cells, the slots and the clock at their offsets.
 #![tactic(auto)]
+
 ghost use Rattle.std.specs.Prelude.{◌≡◌, ◌+◌, ◌<◌, ◌≤◌, length, drop};
 ghost use Rattle.slot.specs.Layout.{read_capacity, write_capacity};
 ghost use Rattle.rules.specs.Cells.{held_by_other};

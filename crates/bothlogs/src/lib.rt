@@ -1,5 +1,6 @@
 // What a slot's two logs say of one another: whether a marked cell is also in the write log.
 #![tactic(auto)]
+
 ghost use Rattle.std.specs.Prelude.{false, ◌≡◌, ℕ, ◌≤◌, ◌<◌, replicate};
 ghost use Rattle.slot.specs.Logs.{read_log};
 ghost use Rattle.packed.specs.Places.{slot_in};

@@ -1,6 +1,7 @@
 // The two functions for C, thin: the lent area is checked, the call decoded, and the step taken in place. Nothing is asked of the caller but that the
 // slices are what they say.
 #![tactic(auto)]
+
 ghost use Rattle.rules.specs.Run.{call};
 ghost use Rattle.fresh.specs.LaidOut.{LaidOut};
 ghost use Rattle.crocktendril.specs.Contract.{Stepped};
@@ -8,14 +9,7 @@ ghost use Rattle.crocktendril.specs.Contract.{Stepped};
 use call::Reply;
 
 // Makes one step. Answers code × 2^40 + kind × 2^32 + word.
-pub fn crocktendril_step(
-    s: &mut [u8],
-    step: u8,
-    slot: u8,
-    cell: u8,
-    kind: u8,
-    word: u32,
-) -> u64
+pub fn crocktendril_step(s: &mut [u8], step: u8, slot: u8, cell: u8, kind: u8, word: u32) -> u64
     ensures { Stepped s.old (call step slot cell kind word) result s.new }
 {
     if !wellformed::well_formed(s) {

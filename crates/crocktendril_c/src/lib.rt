@@ -1,5 +1,6 @@
 // The two functions as C calls them: each hands its arguments on to the library's function of its name, and promises the same.
 #![tactic(auto)]
+
 ghost use Rattle.rules.specs.Run.{call};
 ghost use Rattle.fresh.specs.LaidOut.{LaidOut};
 ghost use Rattle.crocktendril.specs.Contract.{Stepped};

@@ -1,5 +1,6 @@
 // The fourteen steps on a lent area: a step is taken by its row, once its number and its slot are found to be right.
 #![tactic(auto)]
+
 ghost use Rattle.std.specs.Prelude.{◌≡◌, ◌<◌};
 ghost use Rattle.rules.specs.Model.{controller};
 ghost use Rattle.rules.specs.Step as rule;

@@ -1,5 +1,6 @@
 // The effects of a step sheet's run, a line each. Any bytes are taken, and any buffers.
 #![tactic(auto)]
+
 ghost use Rattle.stage.specs.Calls.{call_of};
 ghost use Rattle.effects.specs.Steps.{StepTraced, StepsTraced};
 ghost use Rattle.effects.specs.Traced.{SheetTraced};

@@ -1,5 +1,6 @@
 // The steps that end a transaction: finish, publish and give up. Each tests in the order of its row, and a refusal changes nothing.
 #![tactic(auto)]
+
 ghost use Rattle.std.specs.Prelude.{◌≡◌, ◌<◌};
 ghost use Rattle.rules.specs.Model.{controller};
 ghost use Rattle.rules.specs.Layout.{lay};

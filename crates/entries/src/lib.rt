@@ -1,5 +1,6 @@
 // The entries of a slot's logs and its fields of one byte, each at a place of its own.
 #![tactic(auto)]
+
 ghost use Rattle.std.specs.Prelude.{◌≡◌, ◌+◌, ◌*◌, ◌≤◌, length};
 ghost use Rattle.slot.specs.Layout.{write_capacity, read_size, write_size, bit, start_at};
 ghost use Rattle.entries.specs.Entries.{read_here, write_here, write_log_here, read_put, write_put, first_put};

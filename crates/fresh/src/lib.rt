@@ -1,5 +1,6 @@
 // The lay-out of a fresh area from descriptions.
 #![tactic(auto)]
+
 ghost use Rattle.std.specs.Prelude.{◌≡◌, ◌+◌, ◌*◌, ◌≤◌, length, drop};
 ghost use Rattle.wire.specs.Part.{splice};
 ghost use Rattle.slot.specs.Layout.{slot_size};

@@ -18,7 +18,6 @@ use Rattle.call.specs.Decode.{decoded}
 use Rattle.call.proofs.Number.{number-back}
 use Rattle.slot.specs.declared.ReadEntry.{ReadEntry}
 use Rattle.slot.specs.Layout.{no_read}
-use Rattle.slot.specs.Logic.{◌and◌}
 use Rattle.slot.proofs.Logic.{and_left, and_right}
 use Rattle.slot.proofs.Search.{found-passes}
 use Rattle.rules.specs.Model.{Model, FitsBytes}

@@ -1,5 +1,6 @@
 // Input, read to its end or as far as a buffer goes.
 #![tactic(auto)]
+
 ghost use Rattle.std.specs.Prelude.{◌≤◌, length, IfOk};
 
 use std::io;

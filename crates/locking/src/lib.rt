@@ -1,6 +1,7 @@
 // The steps of a locking slot: lock takes its cells one by one, and enter leads into the twilight zone. Each tests in the order of its row, and a refusal changes
 // nothing.
 #![tactic(auto)]
+
 ghost use Rattle.std.specs.Prelude.{◌<◌};
 ghost use Rattle.rules.specs.Model.{controller};
 ghost use Rattle.rules.specs.Steps as rule;

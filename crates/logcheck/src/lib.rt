@@ -1,5 +1,6 @@
 // Whether the logs of a slot are right: cells below n, words legal, no cell twice, the write log ascending; unused entries zero; the marks.
 #![tactic(auto)]
+
 ghost use Rattle.std.specs.Prelude.{◌≡◌, ◌+◌, ◌≤◌, length, drop};
 ghost use Rattle.wire.specs.Field.{be};
 ghost use Rattle.slot.specs.Layout.{slot_of};

@@ -25,7 +25,7 @@ use Rattle.rules.specs.State.{State, cell_count, cell_at, slot_at, turn, Slot, o
 use Rattle.rules.specs.Layout.{lay, view}
 use Rattle.rules.specs.Cells.{held_by_other, newer}
 use Rattle.rules.specs.Outcome.{refused, accepted}
-use Rattle.rules.specs.Steps.{begin, read_shared, read, write, close}
+use Rattle.rules.specs.Steps.{begin, read_shared, read, close}
 use Rattle.ways.proofs.Tests.{stops, passes, no_cell, is-cell}
 use Rattle.ways.proofs.Found.{read-sought, write-sought}
 use Rattle.ways.proofs.Phase.{is-idle, when-open, read_count, not-idle, not-open, is_open}

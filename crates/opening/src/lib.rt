@@ -1,5 +1,6 @@
 // The steps that open a transaction, read for it and close it. Each tests in the order of its row, and a refusal changes nothing.
 #![tactic(auto)]
+
 ghost use Rattle.std.specs.Prelude.{◌≡◌, ◌<◌};
 ghost use Rattle.rules.specs.Model.{controller};
 ghost use Rattle.rules.specs.Layout.{lay};

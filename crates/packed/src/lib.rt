@@ -1,5 +1,6 @@
 // A slot's bytes in place: its record without the logs, entries of the logs where they stand, and each part of a record put where it stands.
 #![tactic(auto)]
+
 ghost use Rattle.std.specs.Prelude.{◌≡◌, ◌+◌, ◌≤◌, ◌<◌, length};
 ghost use Rattle.slot.specs.Layout.{read_capacity, write_capacity, slot_size};
 ghost use Rattle.packed.specs.Places.{

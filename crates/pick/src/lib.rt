@@ -1,5 +1,6 @@
 // The pick rule of a wear set, on the words of its cells: group by group the truth cell's, then the erases cell's.
 #![tactic(auto)]
+
 ghost use Rattle.std.specs.Prelude.{◌≡◌, ◌*◌, ◌+◌, ◌≤◌, length};
 ghost use Rattle.pick.specs.Found.{negative_place, picked_group, count_from};
 

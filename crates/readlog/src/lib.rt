@@ -1,6 +1,7 @@
 // What the cells say of a slot's read log: its marks at enter, its words at reload, and the first cell that stands in reload's way. And what the write log says of it: whether it
 // has a marked cell too.
 #![tactic(auto)]
+
 ghost use Rattle.std.specs.Prelude.{◌≡◌, ◌<◌};
 ghost use Rattle.slot.specs.Logic.{◌or◌};
 ghost use Rattle.rules.specs.Cells.{held_by_other, newer, with_mark, reloaded};

@@ -18,7 +18,6 @@ use Rattle.slot.specs.Logs.{busy_record}
 use Rattle.slot.specs.Layout.{read_capacity, write_capacity, no_read, no_write, slot_bytes}
 use Rattle.slot.specs.Fit.{Bytewise}
 use Rattle.slot.proofs.RoundTrip.{slot-bytes}
-use Rattle.slot.specs.Logic.{◌and◌}
 use Rattle.rules.specs.Model.{Model, area_length, FitsBytes}
 use Rattle.rules.specs.State.{State, Slot, idle, opened, locking, twilight, publishing, cell_count, cell_at, slot_at, no_cell}
 use Rattle.rules.specs.LogsRight.{cell_right, logged_right, reads_right, writes_right, cell_count_right}

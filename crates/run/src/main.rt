@@ -1,5 +1,6 @@
 // Runs the step sheet on standard input, and writes what it prints to standard output.
 #![tactic(auto)]
+
 use stage::Ran;
 use std::io;
 use std::io::Write;

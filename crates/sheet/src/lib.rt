@@ -1,5 +1,6 @@
 // The run of a step sheet: lay out, make the steps in order, print. Any bytes are taken, and any buffers.
 #![tactic(auto)]
+
 ghost use Rattle.line.specs.Gather.{Leaves, gathered};
 ghost use Rattle.sheet.specs.Parts.{state_added, StepsMade, StepsRun};
 ghost use Rattle.sheet.specs.Whole.{SheetRun};

@@ -1,5 +1,6 @@
 // Whether the slots of an area are right but for the holders: of each its phase, counts, logs, stamps, unused entries, marks and flag; then the commit stamps apart.
 #![tactic(auto)]
+
 ghost use Rattle.std.specs.Prelude.{◌≡◌, ◌≤◌, ◌<◌, length};
 ghost use Rattle.slot.specs.Layout.{slot_of, slot_size};
 ghost use Rattle.rules.specs.Model.{controller};

@@ -1,5 +1,6 @@
 // What the programs that run a step sheet share: its area laid out, and one step made from its 8 bytes. Any bytes are taken, and any areas.
 #![tactic(auto)]
+
 ghost use Rattle.line.specs.Gather.{Leaves, gathered, added};
 ghost use Rattle.crocktendril.specs.Contract.{Stepped};
 ghost use Rattle.stage.specs.Calls.{call_of};

@@ -1,5 +1,6 @@
 // Stores in place: of its slot a step stores what it changed, and with it a cell, the clock or the holders.
 #![tactic(auto)]
+
 ghost use Rattle.std.specs.Prelude.{◌≡◌, ◌+◌, ◌<◌, ◌≤◌, length};
 ghost use Rattle.slot.specs.Fields.{turned_to, with_last, with_reads_of, with_writes_of};
 ghost use Rattle.slot.specs.Layout.{read_capacity, empty};

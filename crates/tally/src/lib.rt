@@ -1,5 +1,6 @@
 // What a step counts for: the number of its transaction, and what it shows. Any numbers are taken.
 #![tactic(auto)]
+
 ghost use Rattle.std.specs.Prelude.{◌≡◌, get_or};
 ghost use Rattle.tally.specs.Numbering.{no_numbers, numbers_after};
 ghost use Rattle.tally.specs.Showing.{shown_by, read_shown};

@@ -1,5 +1,6 @@
 // What one step tells: what its slot has before it, and its line. Any bytes are taken, and any buffers.
 #![tactic(auto)]
+
 ghost use Rattle.std.specs.Prelude.{◌≡◌, pred};
 ghost use Rattle.slot.specs.Logs.{write_log, write_entry};
 ghost use Rattle.slot.specs.Operations.{write_found};

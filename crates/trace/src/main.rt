@@ -1,5 +1,6 @@
 // Runs the step sheet on standard input, and writes its effects to standard output, a line each.
 #![tactic(auto)]
+
 use stage::Ran;
 use std::io;
 use std::io::Write;

@@ -25,7 +25,7 @@ use Rattle.rules.specs.State.{State, Slot, twilight, cell_count, cell_at, slot_a
 use Rattle.rules.specs.Layout.{lay, view}
 use Rattle.rules.specs.Cells.{reloaded, obstacle}
 use Rattle.rules.specs.Outcome.{Outcome, refused, accepted, found_or}
-use Rattle.rules.specs.Steps.{read, reread, ask, reload, ignore}
+use Rattle.rules.specs.Steps.{reread, ask, reload, ignore}
 use Rattle.readlog.specs.declared.Obstacle.{Obstacle}
 use Rattle.readlog.specs.declared.Obstacle.TheVariants.{Held, Clear}
 use Rattle.readlog.specs.Reload.{obstacle_of}

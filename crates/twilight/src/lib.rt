@@ -1,5 +1,6 @@
 // The steps in the twilight zone on what was read: reread, ask, reload and ignore. Each tests in the order of its row, and a refusal changes nothing.
 #![tactic(auto)]
+
 ghost use Rattle.std.specs.Prelude.{◌<◌};
 ghost use Rattle.rules.specs.Model.{controller};
 ghost use Rattle.rules.specs.Steps as rule;

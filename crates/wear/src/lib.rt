@@ -1,5 +1,6 @@
 // The wear operation for C: one check of the area, then steps of the core in place. Nothing is asked of the caller but that the slices are what they say.
 #![tactic(auto)]
+
 ghost use Rattle.wear.specs.Contract.{Worn};
 
 // The number of slots.

@@ -1,5 +1,6 @@
 // The wear operation as C calls it: its arguments are handed on to the library's function of its name, and it promises the same.
 #![tactic(auto)]
+
 ghost use Rattle.wear.specs.Contract.{Worn};
 
 // Levels the wear set. Answers place × 2^48 + code × 2^40 + kind × 2^32 + word.

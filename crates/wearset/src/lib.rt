@@ -1,5 +1,6 @@
 // What is asked before the first read: that the set is right, and that the slot's transaction is open with empty logs.
 #![tactic(auto)]
+
 ghost use Rattle.std.specs.Prelude.{◌≡◌, ◌<◌};
 ghost use Rattle.rules.specs.State.{slot_at};
 ghost use Rattle.area.specs.Good.{Good, state_in};

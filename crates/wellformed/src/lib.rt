@@ -1,5 +1,6 @@
 // Whether an area is well formed: the header, one pass over the slots, the commit stamps, then one pass over the cells with what is due to each.
 #![tactic(auto)]
+
 ghost use Rattle.std.specs.Prelude.{◌≡◌};
 ghost use Rattle.rules.specs.Model.{controller};
 ghost use Rattle.rules.specs.LogsRight.{cell_count_right};

@@ -1,6 +1,7 @@
 // The steps that put a value into the write log: write, while the slot is open, and update in the twilight zone; each also without a value, where kind or word is
 // illegal. Each tests in the order of its row, and a refusal changes nothing.
 #![tactic(auto)]
+
 ghost use Rattle.std.specs.Prelude.{◌≡◌, ◌<◌};
 ghost use Rattle.rules.specs.Model.{controller};
 ghost use Rattle.rules.specs.Layout.{lay};

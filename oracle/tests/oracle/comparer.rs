@@ -1,8 +1,10 @@
 //! The programs `compare` and `sheet_time`, from outside, and how another
 //! program is run.
 
-use std::path::PathBuf;
+use std::fs;
+use std::path::{Path, PathBuf};
 use std::process::{Command, Output};
+use std::sync::atomic::{AtomicUsize, Ordering};
 use std::time::Duration;
 
 use oracle::compare::{Case, Ended, Given, Process};
@@ -30,8 +32,13 @@ fn compare_right(options: &[&str]) -> Output {
     run_compare(&[&[&run, &trace, EXAMPLES], options].concat())
 }
 
+/// Each run has a folder of its own: the tests run at once, and each writes its sheets anew.
 fn run_sheet_time(program: &str, tracer: &str) -> Output {
-    output_of(env!("CARGO_BIN_EXE_sheet_time"), &[program, tracer, env!("CARGO_TARGET_TMPDIR")])
+    static RUNS: AtomicUsize = AtomicUsize::new(0);
+    let run = format!("sheet-time-{}", RUNS.fetch_add(1, Ordering::Relaxed));
+    let folder = Path::new(env!("CARGO_TARGET_TMPDIR")).join(run);
+    fs::create_dir_all(&folder).expect("the folder is made");
+    output_of(env!("CARGO_BIN_EXE_sheet_time"), &[program, tracer, &folder.to_string_lossy()])
 }
 
 fn output_of(program: &str, arguments: &[&str]) -> Output {

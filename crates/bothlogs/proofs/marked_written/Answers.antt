@@ -10,7 +10,7 @@ use Rattle.bothlogs.proofs.Overlap.{told-marked, told-unmarked, none-past, eithe
 use Rattle.bothlogs.proofs.marked_written.Goals as goal
 
 pub loop-i-init : goal.loop-i-init
-loop-i-init c =  sought-start (writes-sized c.args.width c.args.at c.args.s.now)
+loop-i-init c = sought-start (writes-sized c.args.width c.args.at c.args.s.now)
 
 pub write_at-e-requires : goal.write_at-e-requires
 write_at-e-requires c =

@@ -1,7 +1,6 @@
 -- `all_legal` meets its contract: before each turn the first `k` descriptions are legal, so the test goes on from there.
 use mathlib.Core.Path.{sym, ap, ◌∙◌}
 use native.Mathlib.Omega.{arith}
-use borrow.Author.Tests.{not-true, not-false}
 use Rattle.rules.specs.State.{no_cell}
 use Rattle.rules.specs.Area.{described_cells}
 use Rattle.fresh.specs.Parts.{legal_cell}

@@ -1,6 +1,5 @@
 -- `lay_out` meets its contract: the tests are the definition's, in its order, and each way out is one of its three.
 use mathlib.Core.Path.{refl, sym, ◌∙◌}
-use borrow.Author.Tests.{not-true, not-false}
 use Rattle.fresh.proofs.Parts.{lengths-of, wrong-lengths, wrong-value, all_right}
 use Rattle.fresh.proofs.lay_out.Goals as goal
 

@@ -12,9 +12,8 @@ unfolding cat
 loop-i-init c = (omega arith, refl, sym (splice-nil c.args.s.now c.args.at))
 
 pub loop-i-preserved : goal.loop-i-preserved
-loop-i-preserved c =
-     (
-      omega arith,
-      c.clear.auto.s ∙ c.loop-i.invariant.1,
-      splice-part 197 (λ j. slot_bytes 8 empty) (λ j. length-slot_bytes 8 empty) c.args.s.now c.args.at c.loop-i.i c.loop-i.s c.clear.new.s (omega arith) c.loop-i.invariant.2 (c.clear.ensures),
-    )
+loop-i-preserved c = (
+  omega arith,
+  c.clear.auto.s ∙ c.loop-i.invariant.1,
+  splice-part 197 (λ j. slot_bytes 8 empty) (λ j. length-slot_bytes 8 empty) c.args.s.now c.args.at c.loop-i.i c.loop-i.s c.clear.new.s (omega arith) c.loop-i.invariant.2 (c.clear.ensures),
+)

@@ -1,5 +1,4 @@
 -- Before each turn the entries passed are right, and `least` is at most exactly the cells that are above all of theirs.
-use mathlib.Core.Bool.{true}
 use mathlib.Core.Path.{◌∙◌}
 use native.Mathlib.Omega.{arith}
 use borrow.Author.Tests.{le-leb, lt-leb}

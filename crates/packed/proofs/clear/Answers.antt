@@ -20,12 +20,11 @@ pub loop-k-init : goal.loop-k-init
 loop-k-init c = (omega arith, refl, sym (splice-nil c.args.s.now c.args.at))
 
 pub loop-k-preserved : goal.loop-k-preserved
-loop-k-preserved c =
-     (
-      omega arith,
-      length-set {A = ℕ} c.loop-k.s (c.args.at + c.loop-k.k) 0 ∙ c.loop-k.invariant.1,
-      zero-next c.args.s.now c.args.at c.loop-k.k c.loop-k.s (omega arith) c.loop-k.invariant.2,
-    )
+loop-k-preserved c = (
+  omega arith,
+  length-set {A = ℕ} c.loop-k.s (c.args.at + c.loop-k.k) 0 ∙ c.loop-k.invariant.1,
+  zero-next c.args.s.now c.args.at c.loop-k.k c.loop-k.s (omega arith) c.loop-k.invariant.2,
+)
 
 pub returns : goal.returns
 returns c =

@@ -10,7 +10,7 @@ use Rattle.packed.proofs.InLog.{writes-counted, writes-sized, sought-start, entr
 use Rattle.packed.proofs.find_write.Goals as goal
 
 pub loop-next-init : goal.loop-next-init
-loop-next-init c =  sought-start (writes-sized c.args.width c.args.at c.args.s.now)
+loop-next-init c = sought-start (writes-sized c.args.width c.args.at c.args.s.now)
 
 pub returns-then-e-cell : goal.returns-then-e-cell
 unfolding write_entry

@@ -9,7 +9,7 @@ use Rattle.packed.proofs.InLog.{reads-counted, reads_sized, sought-start, entry_
 use Rattle.packed.proofs.some_marked.Goals as goal
 
 pub loop-i-init : goal.loop-i-init
-loop-i-init c =  sought-start (reads_sized c.args.width c.args.at c.args.s.now)
+loop-i-init c = sought-start (reads_sized c.args.width c.args.at c.args.s.now)
 
 pub returns-then-e : goal.returns-then-e
 unfolding some_marked

@@ -10,7 +10,7 @@ pub loop-g-preserved : goal.loop-g-preserved
 loop-g-preserved c =
     elim c.if-count-fewest.branch [
       | then-count-fewest w ↦
-        rw (w.fewest-is, w.best-is) (sought-better _ _ _ _ _ _ c.loop-g.invariant (omega arith) c.count_of-count.ensures w.if-count-fewest.true)
+          rw (w.fewest-is, w.best-is) (sought-better _ _ _ _ _ _ c.loop-g.invariant (omega arith) c.count_of-count.ensures w.if-count-fewest.true)
       | else-count-fewest w ↦
-        rw (w.fewest-is, w.best-is) (sought-other _ _ _ _ _ _ c.loop-g.invariant (omega arith) c.count_of-count.ensures w.if-count-fewest.false)
+          rw (w.fewest-is, w.best-is) (sought-other _ _ _ _ _ _ c.loop-g.invariant (omega arith) c.count_of-count.ensures w.if-count-fewest.false)
     ]

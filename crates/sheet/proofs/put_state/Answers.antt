@@ -30,13 +30,12 @@ overflow_cast-word c =
     omega (arith, c.get-word.ensures, be-bound 4 (drop at l) (bytes_drop at l (λ i. (c.type_inv.area i).fits)))
 
 pub loop-c-preserved : goal.loop-c-preserved
-loop-c-preserved c =
-     (
-      omega arith,
-      c.cell_line.auto.s ∙ c.loop-c.invariant.1,
-      leaves-next (line_in_area c.args.area.now) (gathered c.args.at c.args.out.now) c.loop-c.c c.loop-c.invariant.2
-          (cell-at c.args.area.now c.loop-c.c _ _ c.get-word.ensures c.get-stamp.ensures) c.cell_line.ensures c.end_or-end.ensures,
-    )
+loop-c-preserved c = (
+  omega arith,
+  c.cell_line.auto.s ∙ c.loop-c.invariant.1,
+  leaves-next (line_in_area c.args.area.now) (gathered c.args.at c.args.out.now) c.loop-c.c c.loop-c.invariant.2
+      (cell-at c.args.area.now c.loop-c.c _ _ c.get-word.ensures c.get-stamp.ensures) c.cell_line.ensures c.end_or-end.ensures,
+)
 
 pub returns : goal.returns
 returns c =

@@ -1,5 +1,5 @@
 -- Before each turn the slots passed are right.
-use mathlib.Core.Bool.{Bool, true}
+use mathlib.Core.Bool.{Bool}
 use mathlib.Core.List.{List}
 use mathlib.Core.Path.{◌∙◌, ap}
 use Prim.Native.Nat.{ℕ}
@@ -22,9 +22,8 @@ returns-then-not-slot_right c =
     (fails (c.slot_right.ensures ∙ ap (slot_right_in c.args.s.now c.args.clock) c.slot_place.ensures) c.if-not-slot_right.true)
 
 pub loop-k-preserved : goal.loop-k-preserved
-loop-k-preserved c =
-     (
-      omega arith,
-      every-next (right c.args.s.now c.args.clock) c.loop-k.k c.loop-k.invariant.1
-          (passes (c.slot_right.ensures ∙ ap (slot_right_in c.args.s.now c.args.clock) c.slot_place.ensures) c.if-not-slot_right.false),
-    )
+loop-k-preserved c = (
+  omega arith,
+  every-next (right c.args.s.now c.args.clock) c.loop-k.k c.loop-k.invariant.1
+      (passes (c.slot_right.ensures ∙ ap (slot_right_in c.args.s.now c.args.clock) c.slot_place.ensures) c.if-not-slot_right.false),
+)

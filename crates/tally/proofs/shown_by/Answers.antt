@@ -13,7 +13,7 @@ returns-then-code-ne0 c = rw (ne_eqb _ 13 (c.if-code-eq-ABORTED.false), ne_eqb _
 
 pub returns-in-1 : goal.returns-in-1
 unfolding shown_by
-returns-in-1 c =  rw (c.if-code-ne0.false, c.in-1.is)
+returns-in-1 c = rw (c.if-code-ne0.false, c.in-1.is)
 
 pub returns-in-2 : goal.returns-in-2
 unfolding shown_by
@@ -22,15 +22,15 @@ returns-in-2 c =
 
 pub returns-in-10 : goal.returns-in-10
 unfolding shown_by
-returns-in-10 c =  rw (c.if-code-ne0.false, c.in-10.is)
+returns-in-10 c = rw (c.if-code-ne0.false, c.in-10.is)
 
 pub returns-in-12 : goal.returns-in-12
 unfolding shown_by
-returns-in-12 c =  rw (c.if-code-ne0.false, c.in-12.is)
+returns-in-12 c = rw (c.if-code-ne0.false, c.in-12.is)
 
 pub returns-in-14 : goal.returns-in-14
 unfolding shown_by
-returns-in-14 c =  rw (c.if-code-ne0.false, c.in-14.is)
+returns-in-14 c = rw (c.if-code-ne0.false, c.in-14.is)
 
 pub returns-in_default : goal.returns-in_default
 unfolding shown_by

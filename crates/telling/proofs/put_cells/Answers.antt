@@ -3,7 +3,7 @@ use mathlib.Core.List.{[], ◌∷◌}
 use mathlib.Core.Path.{refl, ◌∙◌}
 use native.Mathlib.Omega.{arith}
 use borrow.Author.Rules.{rules}
-use lib.ListN.{get_or, length-map}
+use lib.ListN.{get_or}
 use Rattle.slot.specs.Layout.{no_write}
 use Rattle.line.specs.Line.{field}
 use Rattle.line.proofs.Gather.{leaves-both, leaves-one, leaves_none}
@@ -15,11 +15,10 @@ loop-i-init c =
     (search rules, refl, omega arith, leaves_none)
 
 pub loop-i-preserved : goal.loop-i-preserved
-loop-i-preserved c =
-     (
-      c.loop-i.invariant.0,
-      c.put_field.auto.s ∙ c.loop-i.invariant.1,
-      omega arith,
-      rw (cells-next c.args.own.writes c.args.own.writecount c.loop-i.i c.if-i-n.true (omega arith))
-          (leaves-both _ (field (get_or c.args.own.writes c.loop-i.i no_write).cell ∷ []) _ c.loop-i.invariant.3 (leaves-one c.put_field.ensures c.end_or-end.ensures)),
-    )
+loop-i-preserved c = (
+  c.loop-i.invariant.0,
+  c.put_field.auto.s ∙ c.loop-i.invariant.1,
+  omega arith,
+  rw (cells-next c.args.own.writes c.args.own.writecount c.loop-i.i c.if-i-n.true (omega arith))
+      (leaves-both _ (field (get_or c.args.own.writes c.loop-i.i no_write).cell ∷ []) _ c.loop-i.invariant.3 (leaves-one c.put_field.ensures c.end_or-end.ensures)),
+)

@@ -1,5 +1,4 @@
 -- Before each turn the places passed are right, and `seen` is 0 at exactly the cells that none of them has.
-use mathlib.Core.Bool.{true}
 use mathlib.Core.Path.{refl}
 use native.Mathlib.Omega.{arith}
 use borrow.Author.Tests.{eq-eqb, ne_eqb}

@@ -10,7 +10,7 @@ use Rattle.area.specs.Good.{state_in}
 use Rattle.ways.proofs.Fields.{other, same}
 use Rattle.ways.proofs.Done.{refuses, leaves}
 use Rattle.ways.proofs.Known.{known}
-use Rattle.writing.proofs.Ways.{Asked, asked, Fits, fits, updated-stands, update-4, update-5, update-6, update-7, update-8, update-0}
+use Rattle.writing.proofs.Ways.{asked, fits, updated-stands, update-4, update-5, update-6, update-7, update-8, update-0}
 use Rattle.writing.proofs.Room.{writable-again}
 use Rattle.writing.proofs.update.Goals as goal
 

@@ -11,7 +11,7 @@ use Rattle.rules.proofs.AreaRead.{count-read}
 use Rattle.ways.proofs.Fields.{other, same}
 use Rattle.ways.proofs.Done.{refuses, leaves}
 use Rattle.ways.proofs.Known.{known}
-use Rattle.writing.proofs.Ways.{Asked, asked, Fits, fits, written_stands, write-4, write-5, write-6, write-7, write-9, write-0}
+use Rattle.writing.proofs.Ways.{asked, fits, written_stands, write-4, write-5, write-6, write-7, write-9, write-0}
 use Rattle.writing.proofs.Room.{writable}
 use Rattle.writing.proofs.write.Goals as goal
 

@@ -1,9 +1,7 @@
 -- The marks are gathered, and each return is what the clauses say of them.
 use mathlib.Core.Bool.{not}
 use mathlib.Core.Path.{refl, ◌∙◌, ap}
-use Prim.Native.Nat.{ℕ}
 use borrow.Author.Tests.{eq-eqb, ne_eqb, le-leb, lt-leb}
-use Rattle.logcheck.specs.Marked.{MarksGathered}
 use Rattle.logcheck.proofs.Chains.{pass, stop, or_yes, or_no}
 use Rattle.logcheck.proofs.MarkLaws.{Known, marks-over, flag-over, no-mark, some-mark}
 use Rattle.logcheck.proofs.marks.marked_right.Goals as goal

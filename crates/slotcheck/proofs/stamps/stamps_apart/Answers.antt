@@ -1,5 +1,4 @@
 -- Before each turn the stamps passed are apart from all earlier ones.
-use mathlib.Core.Bool.{true}
 use mathlib.Core.Path.{◌∙◌}
 use native.Mathlib.Omega.{arith}
 use lib.ListN.{get_or}
@@ -19,12 +18,11 @@ returns-then-not-stamp_apart c =
     ∙ stamps-all c.args.n c.args.s.now c.requires c.stamps_of-stamps.result c.stamps_of-stamps.ensures
 
 pub loop-j-preserved : goal.loop-j-preserved
-loop-j-preserved c =
-     (
-      omega arith,
-      every-next (λ k. every k (λ i. stamps_apart (get_or c.stamps_of-stamps.result i 0) (get_or c.stamps_of-stamps.result k 0))) c.loop-j.j c.loop-j.invariant.1
-          (passes c.stamp_apart.ensures c.if-not-stamp_apart.false),
-    )
+loop-j-preserved c = (
+  omega arith,
+  every-next (λ k. every k (λ i. stamps_apart (get_or c.stamps_of-stamps.result i 0) (get_or c.stamps_of-stamps.result k 0))) c.loop-j.j c.loop-j.invariant.1
+      (passes c.stamp_apart.ensures c.if-not-stamp_apart.false),
+)
 
 pub returns : goal.returns
 returns c =

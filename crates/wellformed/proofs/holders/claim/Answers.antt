@@ -6,12 +6,11 @@ use Rattle.wellformed.proofs.Held.{holds-none, held_first, held_all, held-rest}
 use Rattle.wellformed.proofs.holders.claim.Goals as goal
 
 pub claim_part-requires : goal.claim_part-requires
-claim_part-requires c =
-     (
-      c.requires.0,
-      (held_first _ c.args.s.now c.requires.0 c.args.t.now c.requires.1 c.index-taken.result c.index-taken.ensures.0 c.if-phase-eq2.true).part,
-      c.requires.2,
-    )
+claim_part-requires c = (
+  c.requires.0,
+  (held_first _ c.args.s.now c.requires.0 c.args.t.now c.requires.1 c.index-taken.result c.index-taken.ensures.0 c.if-phase-eq2.true).part,
+  c.requires.2,
+)
 
 pub returns-then-phase-eq2 : goal.returns-then-phase-eq2
 returns-then-phase-eq2 c =
@@ -22,12 +21,11 @@ returns-then-phase-eq2 c =
     c.claim_part.ensures
 
 pub claim_part-requires-then-phase-eq3 : goal.claim_part-requires-then-phase-eq3
-claim_part-requires-then-phase-eq3 c =
-     (
-      c.requires.0,
-      (held_all _ c.args.s.now c.requires.0 c.args.t.now c.requires.1 c.index-count.result c.index-count.ensures.0 c.if-phase-eq3.true).part,
-      c.requires.2,
-    )
+claim_part-requires-then-phase-eq3 c = (
+  c.requires.0,
+  (held_all _ c.args.s.now c.requires.0 c.args.t.now c.requires.1 c.index-count.result c.index-count.ensures.0 c.if-phase-eq3.true).part,
+  c.requires.2,
+)
 
 pub returns-then-phase-eq3 : goal.returns-then-phase-eq3
 returns-then-phase-eq3 c =
@@ -38,12 +36,11 @@ returns-then-phase-eq3 c =
     c.claim_part-then-phase-eq3.ensures
 
 pub claim_part-requires-then-phase-eq4 : goal.claim_part-requires-then-phase-eq4
-claim_part-requires-then-phase-eq4 c =
-     (
-      c.requires.0,
-      (held-rest _ c.args.s.now c.requires.0 c.args.t.now c.requires.1 c.index-taken.result c.index-count.result c.index-taken.ensures.0 c.index-count.ensures.0 c.if-phase-eq4.true).part,
-      c.requires.2,
-    )
+claim_part-requires-then-phase-eq4 c = (
+  c.requires.0,
+  (held-rest _ c.args.s.now c.requires.0 c.args.t.now c.requires.1 c.index-taken.result c.index-count.result c.index-taken.ensures.0 c.index-count.ensures.0 c.if-phase-eq4.true).part,
+  c.requires.2,
+)
 
 pub returns-then-phase-eq4 : goal.returns-then-phase-eq4
 returns-then-phase-eq4 c =

@@ -1,5 +1,4 @@
 -- Before each turn the claims of the entries passed are right and due.
-use mathlib.Core.Bool.{true}
 use mathlib.Core.Path.{refl, sym, ◌∙◌, ap}
 use Prim.Native.Nat.{ℕ, ◌+◌}
 use native.Mathlib.Omega.{arith}
