@@ -55,8 +55,11 @@ def text_fault(edit):
 
 
 def function_at(path, number):
-    """The name of the function in which a line of the source stands: the last `fn` at or above it. An edit keeps the lines' numbers."""
-    names = [match.group(1) for line in text_of(path).split('\n')[:number] for match in [re.match(r'\s*(?:pub )?(?:extern "C" )?fn (\w+)', line)] if match]
+    """The name of the function in which a line of the source stands: the last `fn` at or above it, or below its attributes. An edit keeps the lines' numbers."""
+    lines = text_of(path).split('\n')
+    while lines[number - 1].lstrip().startswith('#['):
+        number += 1
+    names = [match.group(1) for line in lines[:number] for match in [re.match(r'\s*(?:pub )?(?:extern "C" )?fn (\w+)', line)] if match]
     return names[-1] if names else None
 
 

@@ -8,7 +8,6 @@ use Rattle.packed.specs.Places.{slot_in}
 use Rattle.packed.proofs.InLog.{reads-counted, reads_sized}
 use Rattle.bothlogs.proofs.Overlap.{tabled_start, tabled-unmarked, tabled-marked, tabled-whole}
 use Rattle.bothlogs.proofs.note_marked.Goals as goal
-use Rattle.bothlogs.proofs.note_marked.Goals.{then-e, else-e}
 
 pub loop-i-init : goal.loop-i-init
 loop-i-init c =
@@ -27,10 +26,7 @@ loop-i-preserved c =
     let here-inside : c.loop-i.i < read_capacity = omega (arith, c.loop-i-test.true, c.requires.0.reads, reads-counted c.args.width c.args.at c.args.s.now) in
     let room : c.loop-i.i < length (slot_in c.args.width c.args.at c.args.s.now).reads = rw (reads_sized c.args.width c.args.at c.args.s.now) here-inside in (
       omega arith,
-      elim c.if-e.branch [
-        | then-e w ↦ rw (w.marked-is, w.bound-is) (tabled-marked _ _ room c.loop-i.invariant.1 c.read_at-e.ensures w.if-e.true w.covering-bound.ensures.0 w.covering-bound.ensures.1)
-        | else-e w ↦ rw (w.marked-is, w.bound-is) (tabled-unmarked _ _ room c.loop-i.invariant.1 c.read_at-e.ensures w.if-e.false)
-      ],
+      grind (arith, tabled-marked _ _ room c.loop-i.invariant.1 c.read_at-e.ensures, tabled-unmarked _ _ room c.loop-i.invariant.1 c.read_at-e.ensures),
     )
 
 pub returns-clause-marked_after : goal.returns-clause-marked_after

@@ -11,7 +11,7 @@ returns-then-area-lt-MOST_AREA c = short-area _ _ (omega arith)
 
 pub returns-in_default : goal.returns-in_default
 returns-in_default c =
-    bad-sheet _ _ c.if-area-lt-MOST_AREA.false (apart-bad _ (sym c.take_apart-apart.ensures ∙ c.in_default.is))
+    bad-sheet _ _ (omega arith) (apart-bad _ (sym c.take_apart-apart.ensures ∙ c.in_default.is))
 
 pub overflow_mul-described : goal.overflow_mul-described
 overflow_mul-described c =
@@ -66,4 +66,4 @@ slice_bounds-crocktendril_lay_out-end-3 c =
 pub returns : goal.returns
 returns c =
     let good = apart-good _ (sym c.take_apart-apart.ensures ∙ c.in-Good.is) in
-    good-sheet _ _ c.if-area-lt-MOST_AREA.false good c.crocktendril_lay_out.auto.s c.crocktendril_lay_out.ensures
+    good-sheet _ _ (omega arith) good c.crocktendril_lay_out.auto.s c.crocktendril_lay_out.ensures
