@@ -1,50 +1,64 @@
 -- A sheet taken apart: the tests of the code are those of the definition, in its order, and what a good sheet is known by.
-use mathlib.Core.Bool.{Bool, true, false}
+use mathlib.Core.Bool.{Bool, true, false, cond}
 use mathlib.Core.List.{List}
-use mathlib.Core.Path.{◌≡◌, refl, sym, ap, ◌∙◌}
+use mathlib.Core.Path.{◌≡◌, refl, ap, ◌∙◌}
 use Prim.Native.Nat.{ℕ, ◌+◌, ◌*◌, ◌-◌, ◌/◌, ◌≤◌}
 use native.Mathlib.Omega.{arith}
-use borrow.Author.Tests.{eq-eqb, ne_eqb, eqb-true, leb-true}
+use borrow.Author.Tests.{eqb-true, le-leb, leb-true}
+use lib.Dec.{eqb}
 use lib.ListN.{length, take, drop}
+use Rattle.std.specs.Prelude.{Option, Some, None}
 use Rattle.wire.specs.Field.{be}
+use Rattle.slot.specs.Logic.{◌and◌}
 use Rattle.slot.proofs.Logic.{and_left, and_right}
 use Rattle.rules.specs.LogsRight.{cell_count_right}
-use Rattle.apart.specs.declared.Sheet.TheVariants.{Good, Bad}
 use Rattle.fresh.specs.Parts.{described_legal}
-use Rattle.apart.specs.Apart.{described_length, steps_length, first_step, descriptions, cells_of, steps_of, whole_sheet, described_right, steps_right, good_sheet, taken_apart}
+use Rattle.apart.specs.declared.Parts.{Parts}
+use Rattle.apart.specs.Apart.{version_of, described_length, steps_length, first_step, cells_of, steps_of, whole_sheet, pieces_of, described_right, steps_right, good_sheet, taken_apart}
 
-module _ (s : List ℕ) where
-  pub bad : good_sheet s ≡ false → Bad ≡ taken_apart s
-  unfolding taken_apart
-  bad p = rw p
+-- what is there under a test alone tells of the test
+module _ {A : Type 0} where
+  pub found : (b : Bool) {x y : A} → Some x ≡ cond b (Some y) None → (b ≡ true) × (x ≡ y)
+  found true e = (refl, cc)
+  found false e = cc
 
-  -- the tests of the code, with the lengths d and l that it read
-  module _ (d l : ℕ) (described : d ≡ described_length s) (stepped : l ≡ be 2 (drop (3 + d) s)) where
-    lengths : l ≡ steps_length s
-    lengths = stepped ∙ ap (λ (n : ℕ). be 2 (drop (3 + n) s)) described
+  pub not-found : (b : Bool) (y : A) → None ≡ cond b (Some y) None → b ≡ false
+  not-found true y e = cc
+  not-found false y e = refl
 
-    pub whole : length s ≡ 5 + d + l → whole_sheet s ≡ true
-    unfolding whole_sheet
-    whole e = eq-eqb _ _ (e ∙ (λ i. 5 + described i + lengths i))
+  cond-and : (a b : Bool) (x y : A) → cond (a and b) x y ≡ cond a (cond b x y) y
+  unfolding ◌and◌
+  cond-and true b x y = refl
+  cond-and false b x y = refl
 
-    pub not-whole : (length s ≡ 5 + d + l → ⊥) → whole_sheet s ≡ false
-    unfolding whole_sheet
-    not-whole f = ne_eqb _ _ (λ e. f (e ∙ sym (λ i. 5 + described i + lengths i)))
+-- pieces are those of the descriptions, and those of the steps
+pub cell-pieces : (d : ℕ) → pieces_of d 5 1 64 ≡ cond (described_right d) (Some (d / 5)) None
+unfolding pieces_of described_right cell_count_right
+cell-pieces d = refl
 
-    pub described-test : {r b : Bool} → r ≡ described_right d → r ≡ b → described_right (described_length s) ≡ b
-    described-test p q = ap described_right (sym described) ∙ sym p ∙ q
+pub step-pieces : (l : ℕ) → pieces_of l 8 0 4096 ≡ cond (steps_right l) (Some (l / 8)) None
+unfolding pieces_of steps_right ◌and◌
+step-pieces l = rw (le-leb 0 (l / 8) (omega arith))
 
-    pub steps-test : {r b : Bool} → r ≡ steps_right l → r ≡ b → steps_right (steps_length s) ≡ b
-    steps-test p q = ap steps_right (sym lengths) ∙ sym p ∙ q
+-- the tests of the code, one after the other, with the lengths d and l that it read
+module _ (s : List ℕ) (d l : ℕ) (described : d ≡ described_length s) (stepped : l ≡ be 2 (drop (3 + d) s)) where
+  abbrev pub parts : Parts
+  parts = record { cells = d / 5; first = 5 + d; steps = l / 8 }
 
-    pub legal-test : {r b : Bool} → r ≡ described_legal (take (3 + d - 3) (drop 3 s)) → r ≡ b → described_legal (descriptions s) ≡ b
-    legal-test p q =
-        let same : 3 + d - 3 ≡ described_length s = omega arith in
-        ap (λ (n : ℕ). described_legal (take n (drop 3 s))) (sym same) ∙ sym p ∙ q
+  abbrev pub by_tests : Option Parts
+  by_tests =
+      cond (eqb (version_of s) 1)
+      (cond (eqb (length s) (5 + d + l))
+      (cond (described_right d)
+      (cond (steps_right l)
+      (cond (described_legal (take (3 + d - 3) (drop 3 s))) (Some parts) None) None) None) None) None
 
-    pub good : good_sheet s ≡ true → Good (d / 5) (5 + d) (l / 8) ≡ taken_apart s
-    unfolding taken_apart
-    good p = rw p (λ i. Good (described i / 5) (5 + described i) (lengths i / 8))
+  pub by-tests : by_tests ≡ taken_apart s
+  unfolding taken_apart good_sheet whole_sheet
+  by-tests =
+      let lengths : l ≡ steps_length s = stepped ∙ ap (λ (n : ℕ). be 2 (drop (3 + n) s)) described in
+      let n : 3 + d - 3 ≡ d = omega arith in
+      simp cond-and (rw (n, lengths, described) refl)
 
 -- what a sheet that is taken apart is known by
 pub record GoodParts (s : List ℕ) (cells first steps : ℕ) : Type 0 where
@@ -77,23 +91,10 @@ module _ (s : List ℕ) where
         long = eqb-true _ _ whole;
       }
 
-  pub apart-good : {cells first steps : ℕ} → taken_apart s ≡ Good cells first steps → GoodParts s cells first steps
+  pub apart-good : {p : Parts} → Some p ≡ taken_apart s → GoodParts s p.cells p.first p.steps
   unfolding taken_apart
-  apart-good {cells} {first} {steps} e = by (good_sheet s) refl
-    where
-      by : (b : Bool) → good_sheet s ≡ b → GoodParts s cells first steps
-      by true p =
-          let same : Good (cells_of s) (first_step s) (steps_of s) ≡ Good cells first steps = rw p at e in
-          let a : cells_of s ≡ cells = cc in
-          let b : first_step s ≡ first = cc in
-          let c : steps_of s ≡ steps = cc in
-          rw (← a, ← b, ← c) (good-parts p)
-      by false p = let no : Bad ≡ Good cells first steps = rw p at e in let z : ◌≡◌ {A = ℕ} 0 1 = cc in absurd (omega arith)
+  apart-good e = let told = found (good_sheet s) e in rw told.1 (good-parts told.0)
 
-  pub apart-bad : taken_apart s ≡ Bad → good_sheet s ≡ false
+  pub apart-bad : None ≡ taken_apart s → good_sheet s ≡ false
   unfolding taken_apart
-  apart-bad e = by (good_sheet s) refl
-    where
-      by : (b : Bool) → good_sheet s ≡ b → good_sheet s ≡ false
-      by true p = let no : Good (cells_of s) (first_step s) (steps_of s) ≡ Bad = rw p at e in let z : ◌≡◌ {A = ℕ} 0 1 = cc in absurd (omega arith)
-      by false p = p
+  apart-bad e = not-found (good_sheet s) _ e

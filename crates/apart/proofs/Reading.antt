@@ -1,24 +1,14 @@
 -- Bytes read at a place, against the fields that the definitions read from a list's head.
 use mathlib.Core.List.{List}
 use mathlib.Core.Path.{◌≡◌}
-use Prim.Native.Nat.{ℕ, ◌+◌, ◌*◌, ◌≤◌}
+use Prim.Native.Nat.{ℕ, ◌+◌, ◌*◌}
 use native.Mathlib.Omega.{arith}
-use lib.ListN.{length, get_or, drop, drop_of_length-le}
+use lib.ListN.{get_or, drop}
 use lib.Seq.{get_or-drop}
 use Rattle.wire.specs.Field.{be}
 use Rattle.slot.proofs.Entry.{first_byte}
 
-module _ (l : List ℕ) where
-  -- two bytes, in the list or past its end
-  pub pair-at : (at : ℕ) → get_or l at 0 * 256 + get_or l (at + 1) 0 ≡ be 2 (drop at l)
-  unfolding be
-  pair-at at = rw (← first_byte l at, get_or-drop) (omega arith)
-
-  pub pair-past : (at : ℕ) → length l ≤ at → 0 ≡ be 2 (drop at l)
-  unfolding be
-  pair-past at h = rw (drop_of_length-le l h)
-
-  -- four bytes are two pairs
-  pub word_at : be 2 (drop 4 l) * 65536 + be 2 (drop 6 l) ≡ be 4 (drop 4 l)
-  unfolding be
-  word_at = simp get_or-drop (omega arith)
+-- two bytes, in the list or past its end
+pub pair-at : (l : List ℕ) (at : ℕ) → get_or l at 0 * 256 + get_or l (at + 1) 0 ≡ be 2 (drop at l)
+unfolding be
+pair-at l at = rw (← first_byte l at, get_or-drop) (omega arith)

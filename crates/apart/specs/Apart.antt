@@ -1,13 +1,12 @@
 -- A step sheet's bytes, big-endian: version; a 2-byte length and the descriptions; a 2-byte length and the steps. Its parts, and its faults.
-use Rattle.std.specs.Prelude.{Bool, cond, List, ℕ, ◌+◌, ◌*◌, ◌/◌, eqb, leb, length, get_or, take, drop}
+use Rattle.std.specs.Prelude.{Bool, cond, List, ℕ, ◌+◌, ◌*◌, ◌/◌, eqb, leb, length, get_or, take, drop, Option, Some, None}
 use Rattle.wire.specs.Field.{be, field_at}
 use Rattle.slot.specs.Logic.{◌and◌}
 use Rattle.rules.specs.Model.{controller}
 use Rattle.rules.specs.LogsRight.{cell_count_right}
 use Rattle.rules.specs.Area.{description_size}
 use Rattle.fresh.specs.Parts.{described_legal}
-use Rattle.apart.specs.declared.Sheet.{Sheet}
-use Rattle.apart.specs.declared.Sheet.TheVariants.{Good, Bad}
+use Rattle.apart.specs.declared.Parts.{Parts}
 
 -- the byte at `at`, 0 past the end, and the word of a step
 abbrev pub byte_at : List ℕ → ℕ → ℕ
@@ -53,6 +52,12 @@ steps_of s = steps_length s / step_size
 unfoldable pub whole_sheet : List ℕ → Bool
 whole_sheet s = eqb (length s) (first_step s + steps_length s)
 
+-- n pieces of `piece` bytes, if n is from `least` to `most`
+unfoldable pub pieces_of : (size piece least most : ℕ) → Option ℕ
+pieces_of size piece least most =
+    let n = size / piece in
+    cond (eqb (piece * n) size and leb least n and leb n most) (Some n) None
+
 -- a multiple of 5, and n from 1 to 64
 unfoldable pub described_right : ℕ → Bool
 described_right size = eqb (description_size * (size / description_size)) size and cell_count_right controller (size / description_size)
@@ -71,5 +76,6 @@ good_sheet s =
     and steps_right (steps_length s)
     and described_legal (descriptions s)
 
-unfoldable pub taken_apart : List ℕ → Sheet
-taken_apart s = cond (good_sheet s) (Good (cells_of s) (first_step s) (steps_of s)) Bad
+-- the parts of a good sheet
+unfoldable pub taken_apart : List ℕ → Option Parts
+taken_apart s = cond (good_sheet s) (Some (record { cells = cells_of s; first = first_step s; steps = steps_of s })) None

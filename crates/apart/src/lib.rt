@@ -1,21 +1,18 @@
 // A step sheet taken apart. Any bytes are taken.
 #![tactic(auto)]
 
-ghost use Rattle.std.specs.Prelude.{◌≡◌, ◌<◌, drop};
+ghost use Rattle.std.specs.Prelude.{◌≡◌, ◌<◌, ◌^◌, drop};
 ghost use Rattle.wire.specs.Field.{be};
-ghost use Rattle.apart.specs.Apart.{byte_at, step_word, described_right, steps_right, taken_apart};
+ghost use Rattle.apart.specs.Apart.{byte_at, step_word, pieces_of, taken_apart};
 
 use fresh::{DESCRIPTION, MOST_CELLS};
 
-// A sheet's parts: how many cells it describes, where its first step stands, and how many steps it has.
+// A good sheet's parts: how many cells it describes, where its first step stands, and how many steps it has.
 #[derive(Clone, Copy)]
-pub enum Sheet {
-    Good {
-        cells: usize,
-        first: usize,
-        steps: usize,
-    },
-    Bad,
+pub struct Parts {
+    pub cells: usize,
+    pub first: usize,
+    pub steps: usize,
 }
 
 const VERSION: u8 = 1;
@@ -36,78 +33,56 @@ const MOST_STEPS: usize = 4096;
 pub fn byte(s: &[u8], at: usize) -> u8
     ensures { result ≡ byte_at s.now at }
 {
-    if at < s.len() {
-        return s[at];
-    }
-    0
+    s.get(at).copied().unwrap_or(0)
 }
 
 // The number in the two bytes at `at`.
-fn pair(s: &[u8], at: usize) -> usize
-    ensures { (result ≡ be 2 (drop at s.now)) × (result < 65536) }
+fn pair(s: &[u8], at: usize) -> u16
+    requires { at < 2 ^ 32 }
+    ensures { result ≡ be 2 (drop at s.now) }
 {
-    if s.len() <= at {
-        return 0;
-    }
-    (s[at] as usize) * 256 + (byte(s, at + 1) as usize)
+    u16::from_be_bytes([byte(s, at), byte(s, at + 1)])
 }
 
 // The number in the four bytes from 4 on.
 pub fn word(s: &[u8]) -> u32
     ensures { result ≡ step_word s.now }
 {
-    (pair(s, 4) * 65536 + pair(s, 6)) as u32
+    u32::from_be_bytes([byte(s, 4), byte(s, 5), byte(s, 6), byte(s, 7)])
 }
 
-// Whether descriptions of `size` bytes are those of 1 to 64 cells.
-fn described_right(size: usize) -> bool
-    ensures { result ≡ described_right size }
+// How many pieces of `piece` bytes `size` bytes are, if no byte is left over, and there are at least `least` and at most `most` of them.
+fn pieces(size: usize, piece: usize, least: usize, most: usize) -> Option<usize>
+    requires { 0 < piece }
+    ensures { result ≡ pieces_of size piece least most }
 {
-    let n = size / DESCRIPTION;
-    if DESCRIPTION * n != size {
-        return false;
+    let n = size / piece;
+    if piece * n != size || n < least || most < n {
+        return None;
     }
-    if n < 1 {
-        return false;
-    }
-    n <= MOST_CELLS
+    Some(n)
 }
 
-// Whether `size` bytes are at most 4,096 steps.
-fn steps_right(size: usize) -> bool
-    ensures { result ≡ steps_right size }
-{
-    let n = size / STEP;
-    if STEP * n != size {
-        return false;
-    }
-    n <= MOST_STEPS
-}
-
-// Takes a sheet apart.
-pub fn take_apart(s: &[u8]) -> Sheet
+// Takes a sheet apart: None if it is bad.
+pub fn take_apart(s: &[u8]) -> Option<Parts>
     ensures { result ≡ taken_apart s.now }
 {
-    let described = pair(s, DESCRIBED);
-    let stepped = pair(s, DESCRIPTIONS + described);
+    let described = usize::from(pair(s, DESCRIBED));
+    let stepped = usize::from(pair(s, DESCRIPTIONS + described));
     if byte(s, 0) != VERSION {
-        return Sheet::Bad;
+        return None;
     }
     if s.len() != AROUND + described + stepped {
-        return Sheet::Bad;
+        return None;
     }
-    if !described_right(described) {
-        return Sheet::Bad;
-    }
-    if !steps_right(stepped) {
-        return Sheet::Bad;
-    }
+    let cells = pieces(described, DESCRIPTION, 1, MOST_CELLS)?;
+    let steps = pieces(stepped, STEP, 0, MOST_STEPS)?;
     if !fresh::all_legal(&s[DESCRIPTIONS..DESCRIPTIONS + described]) {
-        return Sheet::Bad;
+        return None;
     }
-    Sheet::Good {
-        cells: described / DESCRIPTION,
+    Some(Parts {
+        cells,
         first: AROUND + described,
-        steps: stepped / STEP,
-    }
+        steps,
+    })
 }

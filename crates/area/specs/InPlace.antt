@@ -1,10 +1,8 @@
 -- What each function reads of an area `l` where it stands: of the whole area, of a cell, and of slot i's record.
-use Rattle.std.specs.Prelude.{Bool, List, ℕ, get_or}
+use Rattle.std.specs.Prelude.{Bool, Option, List, ℕ, get_or}
 use Rattle.slot.specs.declared.ReadEntry.{ReadEntry}
-use Rattle.slot.specs.declared.ReadFound.{ReadFound}
 use Rattle.slot.specs.declared.SlotRecord.{SlotRecord}
 use Rattle.slot.specs.declared.WriteEntry.{WriteEntry}
-use Rattle.slot.specs.declared.WriteFound.{WriteFound}
 use Rattle.slot.specs.Fields.{fields_of, without_reads}
 use Rattle.slot.specs.Layout.{no_read, no_write}
 use Rattle.slot.specs.Logs.{read_log, write_log, read_entry, write_entry, some_marked}
@@ -52,10 +50,10 @@ read_in l i k = get_or (record_at l i).reads k no_read
 abbrev pub write_in : List ℕ → ℕ → ℕ → WriteEntry
 write_in l i k = get_or (record_at l i).writes k no_write
 
-abbrev pub read_found_in : List ℕ → ℕ → ℕ → ReadFound
+abbrev pub read_found_in : List ℕ → ℕ → ℕ → Option ReadEntry
 read_found_in l i c = read_found (read_entry (read_log (record_at l i)) c)
 
-abbrev pub write_found_in : List ℕ → ℕ → ℕ → WriteFound
+abbrev pub write_found_in : List ℕ → ℕ → ℕ → Option WriteEntry
 write_found_in l i c = write_found (write_entry (write_log (record_at l i)) c)
 
 abbrev pub marked_in : List ℕ → ℕ → Bool

@@ -23,7 +23,7 @@ ghost use Rattle.area.specs.InPlace.{
 };
 
 use rules::Cell;
-use slot::{ReadEntry, ReadFound, SlotRecord, WriteEntry, WriteFound};
+use slot::{ReadEntry, SlotRecord, WriteEntry};
 
 // In the header: version (1), length (4), number of cells (1), clock. The cells follow it, and the slots the cells.
 pub const COUNT: usize = 5;
@@ -74,15 +74,7 @@ fn cell_of(s: &[u8], at: usize) -> Cell
 pub fn cell_offset(c: u8) -> usize
     ensures { result ≡ cell_start c }
 {
-    HEADER + CELL * (c as usize)
-}
-
-// Where slot `i` starts, behind the cells.
-pub fn slot_offset(s: &[u8], i: u8) -> usize
-    requires { Good s.now × (i < 8) }
-    ensures { result ≡ slot_start s.now i }
-{
-    HEADER + CELL * (s[COUNT] as usize) + SLOT * (i as usize)
+    HEADER + CELL * usize::from(c)
 }
 
 // Cell `c`.
@@ -93,68 +85,80 @@ pub fn cell_at(s: &[u8], c: u8) -> Cell
     cell_of(s, cell_offset(c))
 }
 
-// The phase of slot `i`, counted from 0.
-pub fn phase_at(s: &[u8], i: u8) -> u8
-    requires { Good s.now × (i < 8) }
-    ensures { result ≡ phase_in s.now i }
-{
-    s[slot_offset(s, i)]
+// Slot `index` of a well-formed area, counted from 0: what is read of it where it stands.
+#[derive(Clone, Copy)]
+pub struct SlotView<'a> {
+    pub area: &'a [u8],
+    pub index: u8,
+    pub ghost good: { Good area.now },
+    pub ghost below: { index < 8 },
 }
 
-// Slot `i` with empty logs.
-pub fn fields_at(s: &[u8], i: u8) -> SlotRecord
-    requires { Good s.now × (i < 8) }
-    ensures { result ≡ fields_in s.now i }
-{
-    packed::fields(s, slot_offset(s, i), STAMP)
-}
+impl<'a> SlotView<'a> {
+    // Where it starts, behind the cells.
+    pub fn offset(self) -> usize
+        ensures { result ≡ slot_start self.entry.area.now self.entry.index }
+    {
+        HEADER + CELL * usize::from(self.area[COUNT]) + SLOT * usize::from(self.index)
+    }
 
-// Slot `i` with its write log alone.
-pub fn writes_at(s: &[u8], i: u8) -> SlotRecord
-    requires { Good s.now × (i < 8) }
-    ensures { result ≡ writes_in s.now i }
-{
-    packed::with_writes(s, slot_offset(s, i), STAMP)
-}
+    // Its phase.
+    pub fn phase(self) -> u8
+        ensures { result ≡ phase_in self.entry.area.now self.entry.index }
+    {
+        self.area[self.offset()]
+    }
 
-// Read entry `k` of slot `i`.
-pub fn read_at(s: &[u8], i: u8, k: usize) -> ReadEntry
-    requires { Good s.now × (i < 8) × (k < read_capacity) }
-    ensures { result ≡ read_in s.now i k }
-{
-    packed::read_at(s, slot_offset(s, i), STAMP, k)
-}
+    // It with empty logs.
+    pub fn fields(self) -> SlotRecord
+        ensures { result ≡ fields_in self.entry.area.now self.entry.index }
+    {
+        packed::fields(self.area, self.offset(), STAMP)
+    }
 
-// Write entry `k` of slot `i`.
-pub fn write_at(s: &[u8], i: u8, k: u8) -> WriteEntry
-    requires { Good s.now × (i < 8) × (k < write_capacity) }
-    ensures { result ≡ write_in s.now i k }
-{
-    packed::write_at(s, slot_offset(s, i), STAMP, k as usize)
-}
+    // It with its write log alone.
+    pub fn with_writes(self) -> SlotRecord
+        ensures { result ≡ writes_in self.entry.area.now self.entry.index }
+    {
+        packed::with_writes(self.area, self.offset(), STAMP)
+    }
 
-// The read entry of a cell in slot `i`.
-pub fn find_read(s: &[u8], i: u8, cell: u8) -> ReadFound
-    requires { Good s.now × (i < 8) }
-    ensures { result ≡ read_found_in s.now i cell }
-{
-    packed::find_read(s, slot_offset(s, i), STAMP, cell)
-}
+    // Read entry `k`. For each log there is one function, as in `packed`: a generic one is no plainer.
+    pub fn read_entry(self, k: usize) -> ReadEntry
+        requires { k < read_capacity }
+        ensures { result ≡ read_in self.entry.area.now self.entry.index k }
+    {
+        packed::read_at(self.area, self.offset(), STAMP, k)
+    }
 
-// The write entry of a cell in slot `i`.
-pub fn find_write(s: &[u8], i: u8, cell: u8) -> WriteFound
-    requires { Good s.now × (i < 8) }
-    ensures { result ≡ write_found_in s.now i cell }
-{
-    packed::find_write(s, slot_offset(s, i), STAMP, cell)
-}
+    // Write entry `k`.
+    pub fn write_entry(self, k: u8) -> WriteEntry
+        requires { k < write_capacity }
+        ensures { result ≡ write_in self.entry.area.now self.entry.index k }
+    {
+        packed::write_at(self.area, self.offset(), STAMP, usize::from(k))
+    }
 
-// Whether an entry of slot `i`'s read log is marked.
-pub fn some_marked(s: &[u8], i: u8) -> bool
-    requires { Good s.now × (i < 8) }
-    ensures { result ≡ marked_in s.now i }
-{
-    packed::some_marked(s, slot_offset(s, i), STAMP)
+    // The read entry of a cell.
+    pub fn find_read(self, cell: u8) -> Option<ReadEntry>
+        ensures { result ≡ read_found_in self.entry.area.now self.entry.index cell }
+    {
+        packed::find_read(self.area, self.offset(), STAMP, cell)
+    }
+
+    // The write entry of a cell.
+    pub fn find_write(self, cell: u8) -> Option<WriteEntry>
+        ensures { result ≡ write_found_in self.entry.area.now self.entry.index cell }
+    {
+        packed::find_write(self.area, self.offset(), STAMP, cell)
+    }
+
+    // Whether an entry of its read log is marked.
+    pub fn some_marked(self) -> bool
+        ensures { result ≡ marked_in self.entry.area.now self.entry.index }
+    {
+        packed::some_marked(self.area, self.offset(), STAMP)
+    }
 }
 
 // Whether a cell is held by a slot other than `i`. A cell's holder counts slots from 1, and 0 is none: one's own hold is no conflict.
@@ -162,8 +166,5 @@ pub fn held_by_other(i: u8, x: Cell) -> bool
     requires { i < 8 }
     ensures { result ≡ held_by_other i x }
 {
-    if x.holder == 0 {
-        return false;
-    }
-    x.holder != i + 1
+    x.holder != 0 && x.holder != i + 1
 }

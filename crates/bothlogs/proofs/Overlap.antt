@@ -12,7 +12,7 @@ use lib.Seq.{take-suc, get_or-set_same, get_or-set_other}
 use Rattle.wire.proofs.Laws.Table.{get_or-tab, tab-ext, tab-of}
 use Rattle.slot.specs.declared.ReadEntry.{ReadEntry}
 use Rattle.slot.specs.declared.WriteEntry.{WriteEntry}
-use Rattle.slot.specs.Layout.{no_read, bit}
+use Rattle.slot.specs.Layout.{no_read}
 use Rattle.slot.specs.Logic.{◌and◌, ◌or◌, any}
 use Rattle.slot.specs.Logs.{writes_cell, marked_written}
 use Rattle.slot.proofs.Logic.{and-false, or-false, or-true, any_snoc}
@@ -21,14 +21,14 @@ use Rattle.bothlogs.specs.BothLogs.{marks_cell, marked_table}
 -- ---- the table
 
 -- what the table has for each cell, and that no cell above the bound is marked, once the first i entries of the array are in
-pub record Tabled (marked : List ℕ) (bound : ℕ) (array : List ReadEntry) (i : ℕ) : Type 0 where
+pub record Tabled (marked : List Bool) (bound : ℕ) (array : List ReadEntry) (i : ℕ) : Type 0 where
   pub size : length marked ≡ 64
-  pub byte : (c : ℕ) → c < 64 → get_or marked c 0 ≡ bit (marks_cell (take i array) c)
+  pub flag : (c : ℕ) → c < 64 → get_or marked c false ≡ marks_cell (take i array) c
   pub above : (c : ℕ) → bound < c → marks_cell (take i array) c ≡ false
 
-pub tabled_start : {marked : List ℕ} (array : List ReadEntry) → marked ≡ replicate 64 0 → Tabled marked 0 array 0
+pub tabled_start : {marked : List Bool} (array : List ReadEntry) → marked ≡ replicate 64 false → Tabled marked 0 array 0
 unfolding marks_cell any
-tabled_start array zeros = rw zeros record { size = refl; byte = λ c h. get_or-replicate 64 c 0 0 h; above = λ c h. refl }
+tabled_start array none = rw none record { size = refl; flag = λ c h. get_or-replicate 64 c false false h; above = λ c h. refl }
 
 -- one entry more
 next_marks : (array : List ReadEntry) (i : ℕ) {e : ReadEntry} → i < length array → e ≡ get_or array i no_read → (c : ℕ)
@@ -39,7 +39,7 @@ next_marks array i {e} h there c =
     (ap (λ (n : ℕ). take n array) (add-one i) ∙ take-suc array i no_read h ∙ ap (λ (f : ReadEntry). take i array ++ (f ∷ [])) (sym there))
     ∙ any_snoc (λ (f : ReadEntry). f.mark and eqb c f.cell) (take i array) e
 
-module _ (array : List ReadEntry) (i : ℕ) (inside : i < length array) {marked : List ℕ} {bound : ℕ} (so_far : Tabled marked bound array i) {e : ReadEntry}
+module _ (array : List ReadEntry) (i : ℕ) (inside : i < length array) {marked : List Bool} {bound : ℕ} (so_far : Tabled marked bound array i) {e : ReadEntry}
     (there : e ≡ get_or array i no_read) where
   -- an entry without a mark changes nothing
   no_more : e.mark ≡ false → (c : ℕ) → marks_cell (take (i + 1) array) c ≡ marks_cell (take i array) c
@@ -50,7 +50,7 @@ module _ (array : List ReadEntry) (i : ℕ) (inside : i < length array) {marked 
   tabled-unmarked off =
       record {
         size = so_far.size;
-        byte = λ c h. so_far.byte c h ∙ sym (ap bit (no_more off c));
+        flag = λ c h. so_far.flag c h ∙ sym (no_more off c);
         above = λ c h. no_more off c ∙ so_far.above c h;
       }
 
@@ -59,44 +59,31 @@ module _ (array : List ReadEntry) (i : ℕ) (inside : i < length array) {marked 
   unfolding ◌and◌
   one_more on c = next_marks array i inside there c ∙ rw on
 
-  pub tabled-marked : {next : ℕ} → e.mark ≡ true → bound ≤ next → e.cell ≤ next → Tabled (set marked e.cell 1) next array (i + 1)
+  pub tabled-marked : {next : ℕ} → e.mark ≡ true → bound ≤ next → e.cell ≤ next → Tabled (set marked e.cell true) next array (i + 1)
   tabled-marked on high higher =
       record {
         size = simp length-set so_far.size;
-        byte = λ c h. by c h (eqb c e.cell) refl ∙ sym (ap bit (one_more on c));
+        flag = λ c h. by c h (eqb c e.cell) refl ∙ sym (one_more on c);
         above = λ c h. one_more on c ∙ rw (so_far.above c (omega arith), ne_eqb c e.cell (omega arith)) (or-false false);
       }
     where
-      by : (c : ℕ) → c < 64 → (b : Bool) → eqb c e.cell ≡ b → get_or (set marked e.cell 1) c 0 ≡ bit (marks_cell (take i array) c or eqb c e.cell)
+      by : (c : ℕ) → c < 64 → (b : Bool) → eqb c e.cell ≡ b → get_or (set marked e.cell true) c false ≡ (marks_cell (take i array) c or eqb c e.cell)
       by c h true s =
           let same : c ≡ e.cell = eqb-true _ _ s in
           let room : c < length marked = rw so_far.size h in
-          ap (λ (k : ℕ). get_or (set marked k 1) c 0) (sym same) ∙ get_or-set_same marked c 1 0 room ∙ rw (s, or-true)
-      by c h false s = get_or-set_other marked e.cell c 1 0 (eqb-false _ _ s) ∙ so_far.byte c h ∙ rw (s, or-false)
+          ap (λ (k : ℕ). get_or (set marked k true) c false) (sym same) ∙ get_or-set_same marked c true false room ∙ rw (s, or-true)
+      by c h false s = get_or-set_other marked e.cell c true false (eqb-false _ _ s) ∙ so_far.flag c h ∙ rw (s, or-false)
 
 -- all entries are in
-pub tabled-whole : {marked : List ℕ} {bound : ℕ} {array : List ReadEntry} {n : ℕ} → Tabled marked bound array n → marked ≡ marked_table (take n array)
+pub tabled-whole : {marked : List Bool} {bound : ℕ} {array : List ReadEntry} {n : ℕ} → Tabled marked bound array n → marked ≡ marked_table (take n array)
 tabled-whole {marked} {bound} {array} {n} done =
-    sym (tab-of 64 marked 0 done.size) ∙ tab-ext 64 (λ c. get_or marked c 0) (λ c. bit (marks_cell (take n array) c)) done.byte
+    sym (tab-of 64 marked false done.size) ∙ tab-ext 64 (λ c. get_or marked c false) (marks_cell (take n array)) done.flag
 
--- what the table tells of a cell
-module _ (reads : List ReadEntry) {marked : List ℕ} (table : marked ≡ marked_table reads) {c : ℕ} (below : c < 64) where
-  byte_at : get_or marked c 0 ≡ bit (marks_cell reads c)
-  byte_at = ap (λ (t : List ℕ). get_or t c 0) table ∙ get_or-tab 64 (λ d. bit (marks_cell reads d)) 0 c below
-
-  pub told-marked : get_or marked c 0 ≡ 1 → marks_cell reads c ≡ true
-  told-marked one = by (marks_cell reads c) (sym one ∙ byte_at)
-    where
-      by : (b : Bool) → 1 ≡ bit b → b ≡ true
-      by true p = refl
-      by false p = absurd (omega arith)
-
-  pub told-unmarked : (get_or marked c 0 ≡ 1 → ⊥) → marks_cell reads c ≡ false
-  told-unmarked other = by (marks_cell reads c) (λ p. other (byte_at ∙ p))
-    where
-      by : (b : Bool) → (bit b ≡ 1 → ⊥) → b ≡ false
-      by true p = absurd (p refl)
-      by false p = refl
+-- what the table tells of an entry's cell
+pub told : (reads : List ReadEntry) {marked : List Bool} → marked ≡ marked_table reads → {c here : ℕ} → c ≡ here → here < 64 → {b : Bool}
+    → get_or marked c false ≡ b → marks_cell reads here ≡ b
+told reads table {c} {here} same below is =
+    sym (get_or-tab 64 (marks_cell reads) false here below) ∙ sym (λ i. get_or (table i) (same i) false) ∙ is
 
 -- past a cell above the bound none is marked
 pub none-past : (reads : List ReadEntry) {bound here : ℕ} → ((c : ℕ) → bound < c → marks_cell reads c ≡ false) → bound < here

@@ -2,7 +2,7 @@
 use Rattle.std.specs.Prelude.{Bool, List, ℕ, ◌+◌, ◌≤◌, ◌<◌, eqb, length, get_or}
 use Rattle.wire.specs.Table.{tab}
 use Rattle.slot.specs.declared.ReadEntry.{ReadEntry}
-use Rattle.slot.specs.Layout.{read_capacity, write_capacity, no_read, no_write, slot_size, bit}
+use Rattle.slot.specs.Layout.{read_capacity, write_capacity, no_read, no_write, slot_size}
 use Rattle.slot.specs.Logic.{◌and◌, any}
 use Rattle.slot.specs.Logs.{has_marked_written}
 use Rattle.packed.specs.Places.{slot_in, Ascends}
@@ -21,9 +21,9 @@ pub record Indexed (width at : ℕ) (l : List ℕ) : Type 0 where
 unfoldable pub marks_cell : List ReadEntry → ℕ → Bool
 marks_cell reads c = any (λ (e : ReadEntry). e.mark and eqb c e.cell) reads
 
--- a byte for each cell, 1 where that is so
-abbrev pub marked_table : List ReadEntry → List ℕ
-marked_table reads = tab 64 (λ c. bit (marks_cell reads c))
+-- for each cell whether that is so
+abbrev pub marked_table : List ReadEntry → List Bool
+marked_table reads = tab 64 (marks_cell reads)
 
 -- some marked cell is also in the write log
 abbrev pub marked_written_at : (width at : ℕ) → List ℕ → Bool

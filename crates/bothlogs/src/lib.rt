@@ -16,24 +16,22 @@ fn covering(a: usize, b: usize) -> usize
     a | b
 }
 
-// Notes the cells that the read log of the slot at `at` has with a mark, in a table of zeros with a byte for each cell, and hands back a number that none of them is
+// Notes the cells that the read log of the slot at `at` has with a mark, in a table with a flag for each cell, and hands back a number that none of them is
 // above. With the table one pass over each log is enough.
-fn note_marked(s: &[u8], at: usize, width: usize, marked: &mut [u8; CELLS]) -> usize
-    requires { Indexed width at s.now × (marked.old ≡ replicate 64 0) }
+fn note_marked(s: &[u8], at: usize, width: usize, marked: &mut [bool; CELLS]) -> usize
+    requires { Indexed width at s.now × (marked.old ≡ replicate 64 false) }
     ensures marked_after { marked.new ≡ marked_table (read_log (slot_in width at s.now)) }
     ensures by_index { (c : ℕ) → result < c → marks_cell (read_log (slot_in width at s.now)) c ≡ false }
 {
-    let count = s[at + 3] as usize;
+    let count = usize::from(s[at + 3]);
     let mut bound = 0;
-    let mut i = 0;
-    while i < count {
+    for i in 0..count {
         let e = packed::read_at(s, at, width, i);
         if e.mark {
-            let c = e.cell as usize;
-            marked[c] = 1;
+            let c = usize::from(e.cell);
+            marked[c] = true;
             bound = covering(bound, c);
         }
-        i += 1;
     }
     bound
 }
@@ -43,20 +41,18 @@ pub fn marked_written(s: &[u8], at: usize, width: usize) -> bool
     requires { Indexed width at s.now }
     ensures { result ≡ marked_written_at width at s.now }
 {
-    let mut marked = [0u8; CELLS];
+    let mut marked = [false; CELLS];
     let bound = note_marked(s, at, width, &mut marked);
-    let count = s[at + 4] as usize;
-    let mut i = 0;
-    while i < count {
+    let count = usize::from(s[at + 4]);
+    for i in 0..count {
         let e = packed::write_at(s, at, width, i);
-        let c = e.cell as usize;
+        let c = usize::from(e.cell);
         if bound < c {
             return false;
         }
-        if marked[c] == 1 {
+        if marked[c] {
             return true;
         }
-        i += 1;
     }
     false
 }

@@ -1,4 +1,4 @@
-pub mod Answer
+pub mod Replies
 pub mod Unknown
 pub mod Unique
-pub mod Number
+pub mod Numbers

@@ -2,10 +2,8 @@
 use mathlib.Core.Path.{◌≡◌}
 use Prim.Native.Nat.{ℕ}
 use Rattle.value.proofs.Unique.{given-once}
-use Rattle.call.specs.declared.Decoded.{Decoded}
-use Rattle.call.specs.declared.Reply.{Reply}
-use Rattle.call.specs.Answer.{reply_code, reply_kind, reply_word, reply_number}
-use Rattle.call.specs.Decode.{decoded}
+use Rattle.call.specs.Answer.{Reply, reply_code, reply_kind, reply_word, reply_number}
+use Rattle.call.specs.Decode.{Decoded, decoded}
 
 pub decode-unique : (step cell kind word : ℕ) (r₁ r₂ : Decoded) → r₁ ≡ decoded step cell kind word → r₂ ≡ decoded step cell kind word → r₁ ≡ r₂
 decode-unique step cell kind word r₁ r₂ = given-once

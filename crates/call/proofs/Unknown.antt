@@ -7,36 +7,35 @@ use native.Mathlib.Omega.{arith}
 use borrow.Author.Tests.{eqb-false, leb-true, leb-false, ne_eqb}
 use lib.Dec.{eqb, leb}
 use lib.ListN.{length}
-use Rattle.value.specs.declared.Parsed.{Parsed}
-use Rattle.value.specs.declared.Parsed.TheVariants.{Legal, Illegal}
+use Rattle.std.specs.Prelude.{Option, Some, None, Ok, Err}
+use Rattle.value.specs.declared.CellValue.{CellValue}
 use Rattle.value.specs.Value.{parsed}
 use Rattle.call.specs.declared.Step.TheVariants.{Begin, Read, Close, Lock, Enter, Reread, Ask, Reload, Ignore, Finish, Publish, GiveUp}
-use Rattle.call.specs.declared.Decoded.{Decoded}
-use Rattle.call.specs.declared.Decoded.TheVariants.{Made, IllegalWrite, IllegalUpdate, Unknown}
-use Rattle.call.specs.Decode.{a_write, an_update, decoded}
+use Rattle.call.specs.declared.Undecoded.TheVariants.{IllegalWrite, IllegalUpdate, Unknown}
+use Rattle.call.specs.Decode.{Decoded, a_write, an_update, decoded}
 
 -- ---- a chain of tests for n, n + 1, ..
 
 abbrev chain : ℕ → ℕ → List Decoded → Decoded
-chain step n [] = Unknown
+chain step n [] = Err Unknown
 chain step n (a ∷ ds) = cond (eqb step n) a (chain step (suc n) ds)
 
 abbrev known : Decoded → Bool
-known (Made s) = true
-known (IllegalWrite c) = true
-known (IllegalUpdate c) = true
-known Unknown = false
+known (Ok s) = true
+known (Err (IllegalWrite c)) = true
+known (Err (IllegalUpdate c)) = true
+known (Err Unknown) = false
 
 abbrev AllKnown : List Decoded → Type 0
 AllKnown [] = Unit
 AllKnown (a ∷ ds) = (known a ≡ true) × AllKnown ds
 
 module _ (step : ℕ) where
-  below : (ds : List Decoded) (n : ℕ) → step < n → chain step n ds ≡ Unknown
+  below : (ds : List Decoded) (n : ℕ) → step < n → chain step n ds ≡ Err Unknown
   below [] n h = refl
   below (a ∷ ds) n h = rw (ne_eqb step n (λ e. omega arith)) (below ds (suc n) (omega arith))
 
-  above : (ds : List Decoded) (n : ℕ) → n + length ds ≤ step → chain step n ds ≡ Unknown
+  above : (ds : List Decoded) (n : ℕ) → n + length ds ≤ step → chain step n ds ≡ Err Unknown
   above [] n h = refl
   above (a ∷ ds) n h = rw (ne_eqb step n (λ e. omega arith)) (above ds (suc n) (omega arith))
 
@@ -48,18 +47,18 @@ module _ (step : ℕ) where
   within [] n k l h = absurd (omega arith)
   within (a ∷ ds) n k l h = by-test a (chain step (suc n) ds) n (eqb step n) refl k.0 (λ e. within ds (suc n) k.1 (omega arith) (omega arith))
 
-by_size : (step : ℕ) → (1 ≤ step → step ≤ 14 → ⊥) → (t : Bool) → leb step 14 ≡ t → (ds : List Decoded) → length ds ≡ 14 → chain step 1 ds ≡ Unknown
+by_size : (step : ℕ) → (1 ≤ step → step ≤ 14 → ⊥) → (t : Bool) → leb step 14 ≡ t → (ds : List Decoded) → length ds ≡ 14 → chain step 1 ds ≡ Err Unknown
 by_size step out false e ds n = above step ds 1 (omega (arith, leb-false step 14 e))
 by_size zero out true e ds n = below 0 ds 1 (omega arith)
 by_size (suc m) out true e ds n = absurd (out (omega arith) (leb-true (suc m) 14 e))
 
 -- ---- the last arm of a `match` on 1, 2, .. n
 
-abbrev None : ℕ → ℕ → Type 0
-None step zero = Unit
-None step (suc n) = None step n × (step ≡ suc n → ⊥)
+abbrev NoneTo : ℕ → ℕ → Type 0
+NoneTo step zero = Unit
+NoneTo step (suc n) = NoneTo step n × (step ≡ suc n → ⊥)
 
-pub last_arm : (step n : ℕ) → None step n → 1 ≤ step → step ≤ n → ⊥
+pub last_arm : (step n : ℕ) → NoneTo step n → 1 ≤ step → step ≤ n → ⊥
 last_arm step zero r l h = omega arith
 last_arm step (suc n) r l h = last_arm step n r.0 l (omega (arith, r.1))
 
@@ -68,20 +67,20 @@ last_arm step (suc n) r l h = last_arm step n r.0 l (omega (arith, r.1))
 module _ (step cell kind word : ℕ) where
   steps : List Decoded
   steps =
-      Made Begin ∷ Made (Read cell) ∷ a_write cell (parsed kind word) ∷ Made Close ∷ Made Lock ∷ Made Enter ∷ Made (Reread cell)
-      ∷ an_update cell (parsed kind word) ∷ Made (Ask cell) ∷ Made Reload ∷ Made Ignore ∷ Made Finish ∷ Made Publish ∷ Made GiveUp ∷ []
+      Ok Begin ∷ Ok (Read cell) ∷ a_write cell (parsed kind word) ∷ Ok Close ∷ Ok Lock ∷ Ok Enter ∷ Ok (Reread cell)
+      ∷ an_update cell (parsed kind word) ∷ Ok (Ask cell) ∷ Ok Reload ∷ Ok Ignore ∷ Ok Finish ∷ Ok Publish ∷ Ok GiveUp ∷ []
 
   is-chain : decoded step cell kind word ≡ chain step 1 steps
   unfolding decoded steps
   is-chain = refl
 
-  known-write : (p : Parsed) → known (a_write cell p) ≡ true
-  known-write (Legal v) = refl
-  known-write Illegal = refl
+  known-write : (p : Option CellValue) → known (a_write cell p) ≡ true
+  known-write (Some v) = refl
+  known-write None = refl
 
-  known-update : (p : Parsed) → known (an_update cell p) ≡ true
-  known-update (Legal v) = refl
-  known-update Illegal = refl
+  known-update : (p : Option CellValue) → known (an_update cell p) ≡ true
+  known-update (Some v) = refl
+  known-update None = refl
 
   all_known : AllKnown steps
   unfolding steps
@@ -89,12 +88,12 @@ module _ (step cell kind word : ℕ) where
       (refl, (refl, (known-write (parsed kind word), (refl, (refl, (refl, (refl, (known-update (parsed kind word), (refl, (refl, (refl, (refl, (refl, (refl, tt))))))))))))))
 
   -- A step number outside 1 to 14 is unknown.
-  pub unknown-outside : (1 ≤ step → step ≤ 14 → ⊥) → decoded step cell kind word ≡ Unknown
+  pub unknown-outside : (1 ≤ step → step ≤ 14 → ⊥) → decoded step cell kind word ≡ Err Unknown
   unfolding steps
   unknown-outside out = rw is-chain (by_size step out (leb step 14) refl steps refl)
 
   -- A step number from 1 to 14 is known.
-  pub known-within : 1 ≤ step → step ≤ 14 → decoded step cell kind word ≡ Unknown → ⊥
+  pub known-within : 1 ≤ step → step ≤ 14 → decoded step cell kind word ≡ Err Unknown → ⊥
   unfolding steps
   known-within l h e =
       let k : known (decoded step cell kind word) ≡ true = rw is-chain (within step steps 1 all_known l (omega arith)) in

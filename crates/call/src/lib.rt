@@ -2,11 +2,11 @@
 #![tactic(auto)]
 
 ghost use Rattle.std.specs.Prelude.{◌≡◌};
-ghost use Rattle.call.specs.Answer.{held_word, reply_code, reply_kind, reply_word, reply_number};
+ghost use Rattle.call.specs.Answer.{answer_code, answer_kind, answer_word, held_word, refusal_code, refusal_kind, refusal_word, side_by_side, reply_number};
 ghost use Rattle.call.specs.Decode.{a_write, an_update, decoded};
 ghost use Rattle.value.specs.Value.{parsed};
 
-use value::{CellValue, Parsed};
+use value::CellValue;
 
 // The fourteen steps. A number is a cell.
 #[derive(Clone, Copy)]
@@ -27,21 +27,29 @@ pub enum Step {
     GiveUp,
 }
 
-// What the numbers of a call say. A write or an update whose kind or word is illegal has no value, but keeps its cell: codes 3, 4 and 5 come before 6.
+// Why the numbers of a call are no step. A write or an update whose kind or word is illegal has no value, but keeps its cell: codes 3, 4 and 5 come before 6.
 #[derive(Clone, Copy)]
-pub enum Decoded {
-    Made(Step),
+pub enum Undecoded {
     IllegalWrite(u8),
     IllegalUpdate(u8),
     Unknown,
 }
 
-// The answer to a call, with a case for each cause.
+// What the numbers of a call say.
+pub type Decoded = Result<Step, Undecoded>;
+
+// The answer to a step that was taken. An abort is one: it has freed its cells.
 #[derive(Clone, Copy)]
-pub enum Reply {
+pub enum Answer {
     Done,
     Verdict(bool),
     Value(CellValue),
+    Aborted,
+}
+
+// Why a call is refused, with a case for each cause. It has changed no byte.
+#[derive(Clone, Copy)]
+pub enum Refusal {
     NotWellFormed,
     NoSuchStep,
     NoSuchSlot,
@@ -57,119 +65,142 @@ pub enum Reply {
     LockHeld { cell: u8, holder: u8 },
     ReloadHeld { cell: u8, holder: u8 },
     LastStamp,
-    Aborted,
 }
 
+// The reply to a call.
+pub type Reply = Result<Answer, Refusal>;
+
 // The step that the numbers of a call stand for. What a step doesn't use is ignored.
+#[tactic(auto, unfolding(crate::specs::Decode::decoded))]
 pub fn decode(step: u8, cell: u8, kind: u8, word: u32) -> Decoded
     ensures { result ≡ decoded step cell kind word }
 {
     match step {
-        1 => Decoded::Made(Step::Begin),
-        2 => Decoded::Made(Step::Read(cell)),
-        3 => decoded_write(cell, kind, word),
-        4 => Decoded::Made(Step::Close),
-        5 => Decoded::Made(Step::Lock),
-        6 => Decoded::Made(Step::Enter),
-        7 => Decoded::Made(Step::Reread(cell)),
-        8 => decoded_update(cell, kind, word),
-        9 => Decoded::Made(Step::Ask(cell)),
-        10 => Decoded::Made(Step::Reload),
-        11 => Decoded::Made(Step::Ignore),
-        12 => Decoded::Made(Step::Finish),
-        13 => Decoded::Made(Step::Publish),
-        14 => Decoded::Made(Step::GiveUp),
-        _ => Decoded::Unknown,
+        1 => Ok(Step::Begin),
+        2 => Ok(Step::Read(cell)),
+        3 => value::from_word(kind, word)
+            .map(|v| Step::Write(cell, v))
+            .ok_or(Undecoded::IllegalWrite(cell)),
+        4 => Ok(Step::Close),
+        5 => Ok(Step::Lock),
+        6 => Ok(Step::Enter),
+        7 => Ok(Step::Reread(cell)),
+        8 => value::from_word(kind, word)
+            .map(|v| Step::Update(cell, v))
+            .ok_or(Undecoded::IllegalUpdate(cell)),
+        9 => Ok(Step::Ask(cell)),
+        10 => Ok(Step::Reload),
+        11 => Ok(Step::Ignore),
+        12 => Ok(Step::Finish),
+        13 => Ok(Step::Publish),
+        14 => Ok(Step::GiveUp),
+        _ => Err(Undecoded::Unknown),
     }
-}
-
-// A write holds a value, so kind and word are taken apart here, and the cell is kept where they have none.
-fn decoded_write(cell: u8, kind: u8, word: u32) -> Decoded
-    ensures { result ≡ a_write cell (parsed kind word) }
-{
-    let Parsed::Legal(v) = value::from_word(kind, word) else {
-        return Decoded::IllegalWrite(cell);
-    };
-    Decoded::Made(Step::Write(cell, v))
-}
-
-// The same for an update.
-fn decoded_update(cell: u8, kind: u8, word: u32) -> Decoded
-    ensures { result ≡ an_update cell (parsed kind word) }
-{
-    let Parsed::Legal(v) = value::from_word(kind, word) else {
-        return Decoded::IllegalUpdate(cell);
-    };
-    Decoded::Made(Step::Update(cell, v))
 }
 
 // Who is in the way, and at which cell.
 fn held_word(cell: u8, holder: u8) -> u32
     ensures { result ≡ held_word cell holder }
 {
-    (cell as u32) * 256 + (holder as u32)
+    u32::from(cell) * 256 + u32::from(holder)
 }
 
-impl Reply {
+// Code, kind and word have names: a `From` would not say which of the three it is.
+impl Answer {
     fn code(self) -> u8
-        ensures { result ≡ reply_code self }
+        ensures { result ≡ answer_code self }
     {
         match self {
-            Reply::Done => 0,
-            Reply::Verdict(_) => 0,
-            Reply::Value(_) => 0,
-            Reply::NotWellFormed => 1,
-            Reply::NoSuchStep => 2,
-            Reply::NoSuchSlot => 3,
-            Reply::NotAllowed => 4,
-            Reply::MarkedWritten => 15,
-            Reply::NoSuchCell => 5,
-            Reply::IllegalValue => 6,
-            Reply::OtherKind => 7,
-            Reply::NotInLog => 8,
-            Reply::LogFull => 9,
-            Reply::ReadHeld { holder: _ } => 14,
-            Reply::ReadNewer => 10,
-            Reply::LockHeld { cell: _, holder: _ } => 11,
-            Reply::ReloadHeld { cell: _, holder: _ } => 11,
-            Reply::LastStamp => 12,
-            Reply::Aborted => 13,
+            Answer::Done => 0,
+            Answer::Verdict(_) => 0,
+            Answer::Value(_) => 0,
+            Answer::Aborted => 13,
         }
     }
 
     fn kind(self) -> u8
-        ensures { result ≡ reply_kind self }
+        ensures { result ≡ answer_kind self }
     {
         match self {
-            Reply::Verdict(_) => 1,
-            Reply::Value(v) => v.kind(),
-            Reply::ReadHeld { holder: _ } => 2,
-            Reply::LockHeld { cell: _, holder: _ } => 2,
-            Reply::ReloadHeld { cell: _, holder: _ } => 2,
+            Answer::Done => 0,
+            Answer::Verdict(_) => 1,
+            Answer::Value(v) => v.kind(),
+            Answer::Aborted => 0,
+        }
+    }
+
+    pub fn word(self) -> u32
+        ensures { result ≡ answer_word self }
+    {
+        match self {
+            Answer::Done => 0,
+            Answer::Verdict(yes) => u32::from(yes),
+            Answer::Value(v) => v.word(),
+            Answer::Aborted => 0,
+        }
+    }
+}
+
+impl Refusal {
+    pub fn code(self) -> u8
+        ensures { result ≡ refusal_code self }
+    {
+        match self {
+            Refusal::NotWellFormed => 1,
+            Refusal::NoSuchStep => 2,
+            Refusal::NoSuchSlot => 3,
+            Refusal::NotAllowed => 4,
+            Refusal::MarkedWritten => 15,
+            Refusal::NoSuchCell => 5,
+            Refusal::IllegalValue => 6,
+            Refusal::OtherKind => 7,
+            Refusal::NotInLog => 8,
+            Refusal::LogFull => 9,
+            Refusal::ReadHeld { holder: _ } => 14,
+            Refusal::ReadNewer => 10,
+            Refusal::LockHeld { cell: _, holder: _ } => 11,
+            Refusal::ReloadHeld { cell: _, holder: _ } => 11,
+            Refusal::LastStamp => 12,
+        }
+    }
+
+    pub fn kind(self) -> u8
+        ensures { result ≡ refusal_kind self }
+    {
+        match self {
+            Refusal::ReadHeld { holder: _ } => 2,
+            Refusal::LockHeld { cell: _, holder: _ } => 2,
+            Refusal::ReloadHeld { cell: _, holder: _ } => 2,
             _ => 0,
         }
     }
 
-    fn word(self) -> u32
-        ensures { result ≡ reply_word self }
+    pub fn word(self) -> u32
+        ensures { result ≡ refusal_word self }
     {
         match self {
-            Reply::Verdict(yes) => if yes { 1 } else { 0 },
-            Reply::Value(v) => v.word(),
-            Reply::ReadHeld { holder } => holder as u32,
-            Reply::LockHeld { cell, holder } => held_word(cell, holder),
-            Reply::ReloadHeld { cell, holder } => held_word(cell, holder),
+            Refusal::ReadHeld { holder } => u32::from(holder),
+            Refusal::LockHeld { cell, holder } => held_word(cell, holder),
+            Refusal::ReloadHeld { cell, holder } => held_word(cell, holder),
             _ => 0,
         }
     }
+}
 
-    // The one number that C gets: code, kind and word side by side.
-    pub fn number(self) -> u64
-        ensures { result ≡ reply_number self }
-    {
-        let code = self.code() as u64;
-        let kind = self.kind() as u64;
-        let word = self.word() as u64;
-        code * 1099511627776 + kind * 4294967296 + word
+// Code, kind and word side by side.
+fn side_by_side(code: u8, kind: u8, word: u32) -> u64
+    ensures { result ≡ side_by_side code kind word }
+{
+    u64::from(code) * 1099511627776 + u64::from(kind) * 4294967296 + u64::from(word)
+}
+
+// The one number that C gets.
+#[tactic(auto, unfolding(crate::specs::Answer::reply_number))]
+pub fn number(reply: Reply) -> u64
+    ensures { result ≡ reply_number reply }
+{
+    match reply {
+        Ok(answer) => side_by_side(answer.code(), answer.kind(), answer.word()),
+        Err(refusal) => side_by_side(refusal.code(), refusal.kind(), refusal.word()),
     }
 }

@@ -1,16 +1,15 @@
 -- From what the check, the dispatch and the lay-out ensure to what C is promised.
+use Rattle.std.specs.Prelude.{Err}
 use mathlib.Core.Bool.{Bool, true, false, not, cond, false≢true}
 use mathlib.Core.List.{List}
 use mathlib.Core.Path.{◌≡◌, refl, sym, ◌∙◌, ap}
 use Prim.Native.Nat.{ℕ, ◌≤◌}
 use lib.Dec.{leb}
 use borrow.Author.Tests.{le-leb}
-use Rattle.call.specs.declared.Reply.{Reply}
-use Rattle.call.specs.declared.Reply.TheVariants.{NotWellFormed, NoSuchStep}
-use Rattle.call.specs.declared.Decoded.{Decoded}
-use Rattle.call.specs.declared.Decoded.TheVariants.{Unknown}
-use Rattle.call.specs.Answer.{reply_number}
-use Rattle.call.specs.Decode.{decoded}
+use Rattle.call.specs.Answer.{Reply, reply_number}
+use Rattle.call.specs.declared.Refusal.TheVariants.{NotWellFormed, NoSuchStep}
+use Rattle.call.specs.Decode.{Decoded, decoded}
+use Rattle.call.specs.declared.Undecoded.TheVariants.{Unknown}
 use Rattle.call.proofs.Unknown.{unknown-outside}
 use Rattle.slot.specs.Logic.{◌and◌}
 use Rattle.slot.proofs.Logic.{and_intro}
@@ -26,7 +25,7 @@ use Rattle.ways.specs.Did.{Did}
 use Rattle.crocktendril.specs.Contract.{Stepped}
 
 -- a step number outside 1 to 14 decodes to no step, so the test of the number and the decoding say the same
-no_step : (S : State) (slot : ℕ) (d : Decoded) → d ≡ Unknown → refused NoSuchStep ≡ step_of controller S slot d
+no_step : (S : State) (slot : ℕ) (d : Decoded) → d ≡ (Err Unknown) → refused NoSuchStep ≡ step_of controller S slot d
 unfolding step_of
 no_step S slot d e = rw e
 
@@ -47,7 +46,7 @@ by_number S a = by (leb 1 a.step and leb a.step 14) refl
 
 module _ (l : List ℕ) (a : Call) where
   -- an area that is not well formed gets code 1 and stays
-  pub refuses : (r : ℕ) → well_formed controller l ≡ false → r ≡ reply_number NotWellFormed → Stepped l a r l
+  pub refuses : (r : ℕ) → well_formed controller l ≡ false → r ≡ reply_number (Err NotWellFormed) → Stepped l a r l
   unfolding step_on_bytes
   refuses r p e = record { answer = rw p e; bytes = rw p }
 

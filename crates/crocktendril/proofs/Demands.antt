@@ -1,4 +1,5 @@
 -- The three demands: the contracts give one answer, and the theorems about the rules say what it is.
+use Rattle.std.specs.Prelude.{Err}
 use mathlib.Core.Bool.{Bool, true, false, cond}
 use mathlib.Core.List.{List, [], ◌∷◌, map}
 use mathlib.Core.Path.{◌≡◌, refl, sym, ◌∙◌, ap}
@@ -10,10 +11,9 @@ use Rattle.wire.specs.Field.{Bytes}
 use Rattle.wire.proofs.Unique.{unique}
 use Rattle.slot.specs.Logic.{all}
 use Rattle.rules.specs.declared.Cell.{Cell}
-use Rattle.call.specs.declared.Reply.{Reply}
-use Rattle.call.specs.declared.Reply.TheVariants.{NotWellFormed}
-use Rattle.call.specs.Answer.{reply_code, reply_kind, reply_word, reply_number, Refuses, SaysWho}
-use Rattle.call.proofs.Answer.{refusal-bare, number-splits}
+use Rattle.call.specs.Answer.{Reply, reply_code, reply_kind, reply_word, reply_number, Refuses, SaysWho}
+use Rattle.call.specs.declared.Refusal.TheVariants.{NotWellFormed}
+use Rattle.call.proofs.Replies.{refusal-bare, number-splits}
 use Rattle.rules.specs.Model.{controller}
 use Rattle.rules.specs.Outcome.{reply_of}
 use Rattle.rules.specs.Step.{Call, step}
@@ -40,7 +40,7 @@ abbrev laid : ℕ → List ℕ → Laying
 laid code bytes = record { code = code; bytes = bytes }
 
 -- the reply on bytes is that of the step, or that they are no area
-reply-case : (P : Reply → Type 0) (l : List ℕ) (call : Call) → P NotWellFormed → (well_formed controller l ≡ true → P (reply_of (step controller (state_of controller l) call)))
+reply-case : (P : Reply → Type 0) (l : List ℕ) (call : Call) → P (Err NotWellFormed) → (well_formed controller l ≡ true → P (reply_of (step controller (state_of controller l) call)))
     → P (step_on_bytes controller l call).reply
 unfolding step_on_bytes
 reply-case P l call unformed formed =

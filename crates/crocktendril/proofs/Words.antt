@@ -1,4 +1,5 @@
 -- Every reply of a step has a word of 32 bits: an answer is made of a cell value, and the word of any value that a kind and a word stand for fits; so do a cell and its holder.
+use Rattle.std.specs.Prelude.{Err}
 use mathlib.Core.Bool.{Bool, true, false, cond, not}
 use mathlib.Core.List.{List, map}
 use mathlib.Core.Logic.{⊎_elim}
@@ -17,9 +18,10 @@ use Rattle.value.specs.declared.CellValue.TheVariants.{Truth, Whole, Real}
 use Rattle.value.specs.Value.{word_of, value_of}
 use Rattle.wire.proofs.Laws.Table.{length-tab}
 use Rattle.call.specs.declared.Step.{Step}
-use Rattle.call.specs.declared.Reply.{Reply}
-use Rattle.call.specs.Answer.{held_word, reply_code, reply_word}
-use Rattle.call.proofs.Answer.{refusal-bare}
+use Rattle.call.specs.declared.Answer.{Answer}
+use Rattle.call.specs.declared.Refusal.{Refusal}
+use Rattle.call.specs.Answer.{held_word, answer_word, refusal_code, refusal_word, reply_word}
+use Rattle.call.proofs.Replies.{refusal-bare}
 use Rattle.slot.specs.Layout.{empty}
 use Rattle.slot.specs.Logs.{some_marked}
 use Rattle.slot.proofs.Logic.{and_left, and_right}
@@ -58,7 +60,7 @@ value-word kind word = by (eqb kind 1) (eqb kind 2)
     by false true = whole_word word
     by false false = to_bits-lt binary32 (of_bits binary32 word) (of_bits-fits binary32 word)
 
-move-word : {M : Model} {S : State} {i : ℕ} {s : Step} {r : Reply} {T : State} → Move M S i s r T → reply_word r < 2 ^ 32
+move-word : {M : Model} {S : State} {i : ℕ} {s : Step} {a : Answer} {T : State} → Move M S i s a T → answer_word a < 2 ^ 32
 move-word (began x) = lit< tt
 move-word {S = S} (read-written {c = c} {e = e} x inside w) = value-word (cell_at S c).kind e.word
 move-word {S = S} (read_again {c = c} {e = e} x inside w r) = value-word (cell_at S c).kind e.word
@@ -79,10 +81,10 @@ move-word (published x e) = lit< tt
 move-word (gave-up x) = lit< tt
 
 -- a bare refusal has word 0; a holder, and a cell with its holder, fit where both are bytes
-bare-word : (r : Reply) → Bare r → reply_word r < 2 ^ 32
+bare-word : (r : Refusal) → Bare r → refusal_word r < 2 ^ 32
 bare-word r k =
-    let low = leb→le 2 (reply_code r) k.0.0 in
-    let bare = (refusal-bare r (λ e. omega arith) (⊎_elim (λ e. rw e at k.1) (λ e. rw e at k.2))).1 in
+    let low = leb→le 2 (refusal_code r) k.0.0 in
+    let bare = (refusal-bare (Err r) (λ e. omega arith) (⊎_elim (λ e. rw e at k.1) (λ e. rw e at k.2))).1 in
     omega arith
 
 module _ (M : Model) (S : State) (holders : (c : ℕ) → (cell_at S c).holder < 256) (cells : cell_count S ≤ 256) where

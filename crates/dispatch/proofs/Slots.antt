@@ -1,20 +1,21 @@
 -- Each way out of a call, in the terms in which the code has its facts: the slot's number, and what was decoded.
-use mathlib.Core.Bool.{true, false}
-use mathlib.Core.List.{List, [], ◌∷◌}
+use Rattle.std.specs.Prelude.{Ok, Err}
+use mathlib.Core.Bool.{false}
+use mathlib.Core.List.{List}
+use mathlib.Core.Logic.{◌⊎◌, inl, inr}
 use mathlib.Core.Path.{◌≡◌, refl}
-use Prim.Native.Nat.{ℕ, ◌-◌}
+use Prim.Native.Nat.{ℕ, ◌-◌, ◌<◌, ◌≤◌}
 use native.Mathlib.Numerals.{sub-one}
 use native.Mathlib.Omega.{arith}
-use types.Run.{OneOf, miss}
-use denote.Enum.Declared.{tag_of}
-use lib.Dec.{leb, ltb}
-use borrow.Author.Tests.{le-leb, lt-leb, ltb-true, ltb-false}
-use Rattle.call.specs.declared.Reply.{Reply}
-use Rattle.call.specs.declared.Reply.TheVariants.{NoSuchStep, NoSuchSlot}
-use Rattle.call.specs.declared.Decoded.{Decoded}
-use Rattle.call.specs.declared.Decoded.TheVariants.{Made, IllegalWrite, IllegalUpdate, Unknown}
+use lib.Dec.{leb}
+use borrow.Author.Tests.{le-leb, lt-leb}
+use Rattle.call.specs.Answer.{Reply}
+use Rattle.call.specs.declared.Refusal.{Refusal}
+use Rattle.call.specs.declared.Refusal.TheVariants.{NoSuchStep}
+use Rattle.call.specs.Decode.{Decoded}
+use Rattle.call.specs.declared.Undecoded.{Undecoded}
+use Rattle.call.specs.declared.Undecoded.TheVariants.{IllegalWrite, IllegalUpdate, Unknown}
 use Rattle.call.specs.declared.Step.{Step}
-use Rattle.call.specs.contracts.Decoded.{the_type}
 use Rattle.slot.specs.Logic.{◌and◌}
 use Rattle.rules.specs.Model.{controller}
 use Rattle.rules.specs.State.{State}
@@ -25,55 +26,42 @@ use Rattle.ways.specs.Did.{Did}
 use Rattle.ways.proofs.Done.{refuses, onward}
 use Rattle.dispatch.specs.Without.{without_slot}
 
--- what a number of a step gets where there is no slot
-pub no_other : (d : Decoded) → OneOf (0 ∷ 1 ∷ 2 ∷ []) (tag_of the_type d) → NoSuchSlot ≡ without_slot d
-no_other (Made s) k = refl
-no_other (IllegalWrite c) k = refl
-no_other (IllegalUpdate c) k = refl
-no_other Unknown k = absurd (miss (0 ∷ 1 ∷ 2 ∷ []) 3 tt k)
-
 -- a slot that is not there
-no_slot : (S : State) (slot : ℕ) (d : Decoded) (l : List ℕ) → (leb 1 slot and leb slot 8) ≡ false → Did (step_of controller S slot d) l (without_slot d) l
+no_slot : (S : State) (slot : ℕ) (d : Decoded) (l : List ℕ) → (leb 1 slot and leb slot 8) ≡ false → Did (step_of controller S slot d) l (Err (without_slot d)) l
 unfolding step_of
-no_slot S slot (Made s) l out = refuses l (rw out)
-no_slot S slot (IllegalWrite c) l out = refuses l (rw out)
-no_slot S slot (IllegalUpdate c) l out = refuses l (rw out)
-no_slot S slot Unknown l out = refuses l refl
+no_slot S slot (Ok s) l out = refuses l (rw out)
+no_slot S slot (Err (IllegalWrite c)) l out = refuses l (rw out)
+no_slot S slot (Err (IllegalUpdate c)) l out = refuses l (rw out)
+no_slot S slot (Err Unknown) l out = refuses l refl
 
-module _ (S : State) (slot : ℕ) (d : Decoded) {r : Reply} (l : List ℕ) (answered : r ≡ without_slot d) where
-  pub way-zero : slot ≡ 0 → Did (step_of controller S slot d) l r l
+module _ (S : State) (slot : ℕ) (d : Decoded) {r : Refusal} (l : List ℕ) (answered : r ≡ without_slot d) where
+  pub way-out : (slot ≡ 0) ⊎ ((slot ≡ 0 → ⊥) × (8 < slot)) → Did (step_of controller S slot d) l (Err r) l
   unfolding ◌and◌
-  way-zero e = rw answered (no_slot S slot d l (rw e))
-
-  pub way-high : ltb 8 slot ≡ true → Did (step_of controller S slot d) l r l
-  unfolding ◌and◌
-  way-high h =
-      let above = ltb-true 8 slot h in
+  way-out (inl zero) = rw answered (no_slot S slot d l (rw zero))
+  way-out (inr high) =
+      let above : 8 < slot = high.1 in
       rw answered (no_slot S slot d l (rw (le-leb 1 slot (omega arith), lt-leb slot 8 above)))
 
 -- a slot that is there
-there : (slot : ℕ) (o : Outcome) → (slot ≡ 0 → ⊥) → ltb 8 slot ≡ false → inside_slots controller slot o ≡ o
-unfolding ◌and◌
-there slot o low high = rw (le-leb 1 slot (omega (arith, low)), le-leb slot 8 (ltb-false 8 slot high))
+module _ (S : State) (slot : ℕ) (d : Decoded) (low : slot ≡ 0 → ⊥) (high : slot ≤ 8) where
+  there : (o : Outcome) → inside_slots controller slot o ≡ o
+  unfolding ◌and◌
+  there o = rw (le-leb 1 slot (omega (arith, low)), le-leb slot 8 high)
 
-module _ (S : State) (slot : ℕ) (d : Decoded) {r : Reply} {l l' : List ℕ} (low : slot ≡ 0 → ⊥) (high : ltb 8 slot ≡ false) where
-  pub way-write : {c : ℕ} → d ≡ IllegalWrite c → Did (illegal_write controller S (slot - 1) c) l r l' → Did (step_of controller S slot d) l r l'
+  pub way-made : {r : Reply} {l l' : List ℕ} {s : Step} → d ≡ Ok s → Did (row controller S (slot - 1) s) l r l' → Did (step_of controller S slot d) l r l'
   unfolding step_of
-  way-write told did = rw told (onward (there slot _ low high) (rw sub-one at did))
+  way-made told did = rw told (onward (there _) (rw sub-one at did))
 
-  pub way-update : {c : ℕ} → d ≡ IllegalUpdate c → Did (illegal_update controller S (slot - 1) c) l r l' → Did (step_of controller S slot d) l r l'
-  unfolding step_of
-  way-update told did = rw told (onward (there slot _ low high) (rw sub-one at did))
+  module _ {r : Reply} {l l' : List ℕ} {u : Undecoded} (why : d ≡ Err u) where
+    pub way-write : {c : ℕ} → u ≡ IllegalWrite c → Did (illegal_write controller S (slot - 1) c) l r l' → Did (step_of controller S slot d) l r l'
+    unfolding step_of
+    way-write told did = rw (why, told) (onward (there _) (rw sub-one at did))
 
-  pub way-made : {s : Step} → d ≡ Made s → Did (row controller S (slot - 1) s) l r l' → Did (step_of controller S slot d) l r l'
-  unfolding step_of
-  way-made told did = rw told (onward (there slot _ low high) (rw sub-one at did))
+    pub way-update : {c : ℕ} → u ≡ IllegalUpdate c → Did (illegal_update controller S (slot - 1) c) l r l' → Did (step_of controller S slot d) l r l'
+    unfolding step_of
+    way-update told did = rw (why, told) (onward (there _) (rw sub-one at did))
 
--- neither a write nor an update without its value, and not a step: a number that no step has
-pub way_unknown : (S : State) (slot : ℕ) (d : Decoded) (l : List ℕ) → ((c : ℕ) → d ≡ IllegalWrite c → ⊥) → ((c : ℕ) → d ≡ IllegalUpdate c → ⊥)
-    → ((s : Step) → d ≡ Made s → ⊥) → Did (step_of controller S slot d) l NoSuchStep l
+-- a number that no step has
+pub way-unknown : (S : State) (slot : ℕ) (d : Decoded) (l : List ℕ) {u : Undecoded} → d ≡ Err u → u ≡ Unknown → Did (step_of controller S slot d) l (Err NoSuchStep) l
 unfolding step_of
-way_unknown S slot (Made s) l a b k = absurd (k s refl)
-way_unknown S slot (IllegalWrite c) l a b k = absurd (a c refl)
-way_unknown S slot (IllegalUpdate c) l a b k = absurd (b c refl)
-way_unknown S slot Unknown l a b k = refuses l refl
+way-unknown S slot d l why told = rw (why, told) (refuses l refl)

@@ -7,8 +7,8 @@ use native.Mathlib.Omega.{arith}
 use borrow.Author.Tests.{eqb-true, le-leb}
 use lib.Dec.{eqb}
 use lib.ListN.{length, get_or}
-use Rattle.call.specs.Answer.{reply_code, Refuses}
-use Rattle.call.specs.declared.Reply.{Reply}
+use Rattle.call.specs.Answer.{refusal_code, reply_code, Refuses}
+use Rattle.call.specs.declared.Refusal.{Refusal}
 use Rattle.slot.specs.Logic.{◌and◌, ◌or◌}
 use Rattle.slot.specs.Fields.{without_reads}
 use Rattle.slot.specs.Logs.{reads_cell, writes_cell, read_log, write_log}
@@ -22,7 +22,7 @@ use Rattle.rules.specs.Layout.{lay, state_of}
 use Rattle.rules.specs.Area.{Answered, step_on_bytes}
 use Rattle.rules.proofs.LayView.{read-log, write-log}
 use Rattle.history.specs.History.{Event}
-use Rattle.history.proofs.Cases.{Refusal}
+use Rattle.history.proofs.Cases.{OfStep}
 use Rattle.history.proofs.StepCase.{step_case}
 use Rattle.history.proofs.Keeps.OnBytes.{stepped, answered-reply}
 use Rattle.area.proofs.Good.{good_of}
@@ -47,8 +47,8 @@ commit-laid (twilight ignoring start commit reads writes) = refl
 commit-laid (publishing ignoring taken start commit reads writes) = refl
 
 -- a code of a refusal, by the tests that the moves go by
-not-refusal : (r : Reply) → (Refuses (reply_code r) → ⊥) → Refusal r → ⊥
-not-refusal r n k = n (λ e. rw e at k.0, λ e. rw e at k.1)
+refuses : (r : Refusal) → OfStep r → Refuses (refusal_code r)
+refuses r k = (λ e. rw e at k.0, λ e. rw e at k.1)
 
 -- what a step shows, by its number, its code and what the logs had, is what the definition says
 module _ (step code slot cell number : ℕ) (v : SlotRecord) (written read : Bool) where
@@ -103,9 +103,9 @@ module _ (a : List ℕ) (kept : Kept a) (call : Call) where
       let o = step controller S call in
       let reply : (step_on_bytes controller a call).reply ≡ reply_of o = ap (λ (x : Answered). x.reply) (stepped controller a call kept.right) ∙ answered-reply controller a o in
       let goes : Refuses (reply_code (reply_of o)) → ⊥ = rw reply at n in
-      step_case controller S (λ (o : Outcome). (Refusal (reply_of o) → ⊥) → pred call.slot < 8)
-      (λ r k m. absurd (m k)) call (λ s made h r T move m. h)
-      (not-refusal (reply_of o) goes)
+      step_case controller S (λ (o : Outcome). (Refuses (reply_code (reply_of o)) → ⊥) → pred call.slot < 8)
+      (λ r k m. absurd (m (refuses r k))) call (λ s made h r T move m. h)
+      goes
 
   -- what is looked at is what the slot has
   looked-right : pred call.slot < 8 → looked_at a call.slot call.cell ≡ before_of (lay (slot_at (state_of controller a) (pred call.slot))) call.cell

@@ -1,12 +1,12 @@
 -- What a sheet's trace is, for any bytes: the effects of the history of its run, a line each. A bad sheet prints the same as where it is run.
-use Rattle.std.specs.Prelude.{cond, List, ℕ, ◌*◌}
+use Rattle.std.specs.Prelude.{cond, List, ℕ, ◌*◌, Result}
 use Rattle.wire.specs.Table.{tab}
 use Rattle.rules.specs.Model.{controller}
 use Rattle.rules.specs.Step.{Call}
 use Rattle.history.specs.History.{Event}
 use Rattle.history.specs.AreaHistory.{area_history}
 use Rattle.apart.specs.Apart.{most_steps, steps, good_sheet}
-use Rattle.stage.specs.declared.Ran.{Ran}
+use Rattle.stage.specs.declared.TooShort.{TooShort}
 use Rattle.stage.specs.Calls.{call_at, step_count}
 use Rattle.stage.specs.First.{first_area, bad_sheet}
 use Rattle.stage.specs.Printed.{Printed}
@@ -30,5 +30,5 @@ abbrev pub most_trace : ℕ
 most_trace = 12 * most_steps
 
 -- with too little room nothing is done; else the trace stands at the front of the buffer
-abbrev pub SheetTraced : (s a out : List ℕ) (r : Ran) (b t : List ℕ) → Type 0
+abbrev pub SheetTraced : (s a out : List ℕ) (r : Result ℕ TooShort) (b t : List ℕ) → Type 0
 SheetTraced s a out r b t = Printed most_trace (traced s) s a out r b t

@@ -4,12 +4,10 @@ use mathlib.Core.Bool.{Bool, true, false}
 use mathlib.Core.List.{List}
 use mathlib.Core.Path.{◌≡◌, ◌∙◌, ap}
 use Prim.Native.Nat.{ℕ, suc, ◌<◌}
-use native.Mathlib.Omega.{arith}
 use lib.Dec.{ltb}
 use lib.ListN.{length, get_or, set}
-use lib.Seq.{get_or-take}
 use borrow.Author.Tests.{ltb-true}
-use Rattle.call.specs.declared.Reply.TheVariants.{Done, NotAllowed, Aborted}
+use Rattle.call.specs.declared.Answer.TheVariants.{Done, Aborted}
 use Rattle.slot.specs.declared.WriteEntry.{WriteEntry}
 use Rattle.slot.specs.declared.SlotRecord.{SlotRecord}
 use Rattle.slot.specs.Layout.{no_write, empty}
@@ -20,17 +18,17 @@ use Rattle.slot.proofs.Laws.Operations.{busy-finished, busy-published}
 use Rattle.rules.specs.declared.Cell.{Cell}
 use Rattle.rules.specs.Model.{Model}
 use Rattle.rules.specs.State.{State, Slot, idle, publishing, cell_at, slot_at, turn}
-use Rattle.rules.specs.Layout.{lay, view, count_in}
+use Rattle.rules.specs.Layout.{lay, view}
 use Rattle.rules.specs.Cells.{free_all, published_as}
 use Rattle.rules.specs.StateRight.{slot_right}
-use Rattle.rules.specs.Outcome.{refused, accepted}
+use Rattle.rules.specs.Outcome.{Outcome, accepted, when_uncommitted}
 use Rattle.rules.specs.Steps.{publishing_or_idle, finish, publish, give_up}
 use Rattle.area.specs.Good.{Good, state_in}
 use Rattle.area.proofs.Logged.{slot-holds}
 use Rattle.ways.specs.Asked.{marked_unignored}
-use Rattle.ways.proofs.Phase.{is-idle, is-twilight, is-publishing, when-twilight, not-twilight, not-publishing, uncommitted}
+use Rattle.ways.proofs.Phases.{is-twilight, is-publishing, when-twilight}
 use Rattle.ways.proofs.Record.{Stands, stands, laid-either}
-use Rattle.ways.proofs.Known.{known}
+use Rattle.ways.proofs.Known.{known, Next, next}
 
 pub empty_stands : {w : SlotRecord} → w ≡ empty → Stands w idle
 empty_stands made = stands idle made
@@ -56,25 +54,8 @@ module _ (x : Slot) (v : SlotRecord) (here : v ≡ lay x) {w : SlotRecord} where
       ∙ laid-either (ltb (suc v.taken) (length (write_log v))) (publishing v.ignoring (suc v.taken) v.start v.commit (read_log v) (write_log v)) idle)
 
 module _ (M : Model) (S : State) (i : ℕ) where
-  -- 4: another phase
-  pub finish-4 : ((lay (slot_at S i)).phase ≡ 3 → ⊥) → finish M S i ≡ refused NotAllowed
-  unfolding finish
-  finish-4 n = not-twilight (slot_at S i) n _
-
-  pub publish-4 : ((lay (slot_at S i)).phase ≡ 4 → ⊥) → publish M S i ≡ refused NotAllowed
-  unfolding publish
-  publish-4 n = not-publishing (slot_at S i) n _
-
   -- v is the slot's record
   module _ {v : SlotRecord} (here : v ≡ lay (slot_at S i)) where
-    pub give-up-idle : v.phase ≡ 0 → give_up M S i ≡ refused NotAllowed
-    unfolding give_up
-    give-up-idle p = rw (is-idle (slot_at S i) v here p)
-
-    pub give-up-publishing : v.phase ≡ 4 → give_up M S i ≡ refused NotAllowed
-    unfolding give_up
-    give-up-publishing p = rw (is-publishing (slot_at S i) v here p)
-
     module _ {w : SlotRecord} where
       -- finish, in twilight: the transaction is spoilt, or committed
       module _ (p : v.phase ≡ 3) {spoilt : Bool} (unsound : spoilt ≡ marked_unignored v) where
@@ -91,25 +72,15 @@ module _ (M : Model) (S : State) (i : ℕ) where
       unfolding publish
       publish-0 p entry there commit made = rw (is-publishing (slot_at S i) v here p, entry, there, commit, (published-stands (slot_at S i) v here p made).viewed)
 
-      pub give-up-0 : (v.phase ≡ 0 → ⊥) → (v.phase ≡ 4 → ⊥) → w ≡ empty → give_up M S i ≡ accepted Done (turn S i S.clock (free_all i S.cells) (view w))
+      pub give-up-0 : ((o : Outcome) → when_uncommitted (slot_at S i) o ≡ o) → w ≡ empty → give_up M S i ≡ accepted Done (turn S i S.clock (free_all i S.cells) (view w))
       unfolding give_up
-      give-up-0 n m made = uncommitted (slot_at S i) (λ p. n (rw here p)) (λ p. m (rw here p)) _ ∙ rw (empty_stands made).viewed
+      give-up-0 there made = there _ ∙ rw (empty_stands made).viewed
 
 -- a publishing slot of a good area has a cell left, the write entry that publish takes next
-pub record Next (l : List ℕ) (v : SlotRecord) : Type 0 where
-  pub left : v.taken < 16
-  pub logged : get_or (write_log v) v.taken no_write ≡ get_or v.writes v.taken no_write
-  pub inside : (get_or v.writes v.taken no_write).cell < count_in l
-
 pub next_of : {l : List ℕ} {i : ℕ} {v : SlotRecord} → Good l → i < 8 → v ≡ lay (slot_at (state_in l) i) → v.phase ≡ 4 → Next l v
 unfolding slot_right
 next_of {l} {i} {v} good below here p =
     let k = known good below here in
     let right = rw (is-publishing (slot_at (state_in l) i) v here p) at (slot-holds l good i below) in
     let left : v.taken < length (write_log v) = ltb-true _ _ (and_left _ _ (and_right _ _ right)) in
-    let more : v.taken < v.writecount = rw (← k.counted) left in
-    record {
-      left = omega (arith, k.writes_few);
-      logged = get_or-take v.writecount v.writes v.taken no_write more;
-      inside = k.writes_below v.taken more;
-    }
+    next k (rw (← k.counted) left)

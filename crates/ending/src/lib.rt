@@ -1,4 +1,5 @@
 // The steps that end a transaction: finish, publish and give up. Each tests in the order of its row, and a refusal changes nothing.
+// A step takes area and slot apart, as the stores do (`stores` says why).
 #![tactic(auto)]
 
 ghost use Rattle.std.specs.Prelude.{◌≡◌, ◌<◌};
@@ -10,48 +11,45 @@ ghost use Rattle.area.specs.Good.{Good, state_in};
 ghost use Rattle.ways.specs.Did.{Did};
 ghost use Rattle.ways.specs.Asked.{marked_unignored};
 
-use call::Reply;
+use area::SlotView;
+use call::{Answer, Refusal, Reply};
 use rules::Cell;
+use ways::Phase;
 
 // Ends without commit and frees all held cells, or commits: publishing, or idle at once if nothing was written.
+#[tactic(auto, using(ways::proofs::Exits::exits), unfolding(rules::specs::Steps::finish))]
 pub fn finish(s: &mut [u8], i: u8) -> Reply
     requires { Good s.old × (i < 8) }
     ensures { Did (rule.finish controller (state_in s.old) i) s.old result s.new }
 {
-    if area::phase_at(s, i) != 3 {
-        return Reply::NotAllowed;
-    }
-    let v = area::fields_at(s, i);
-    if spoilt(s, i) {
+    let slot = SlotView { area: s, index: i };
+    ways::in_phase(slot, Phase::Twilight)?;
+    let v = slot.fields();
+    if spoilt(slot) {
         stores::store_freed(s, i, v.idled());
-        return Reply::Aborted;
+        return Ok(Answer::Aborted);
     }
     stores::store_fields(s, i, v.finished());
-    Reply::Done
+    Ok(Answer::Done)
 }
 
 // Some mark and no flag: what was read no longer holds together, and the task does not ignore it.
-fn spoilt(s: &[u8], i: u8) -> bool
-    requires { Good s.now × (i < 8) }
-    ensures { result ≡ marked_unignored (lay (slot_at (state_in s.now) i)) }
+fn spoilt(slot: SlotView) -> bool
+    ensures { result ≡ marked_unignored (lay (slot_at (state_in slot.entry.area.now) slot.entry.index)) }
 {
-    let v = area::fields_at(s, i);
-    if v.ignoring {
-        return false;
-    }
-    area::some_marked(s, i)
+    !slot.fields().ignoring && slot.some_marked()
 }
 
 // The lowest unpublished cell gets its value and the commit stamp, and is freed. The others stay held.
+#[tactic(auto, using(ways::proofs::Exits::exits), unfolding(rules::specs::Steps::publish))]
 pub fn publish(s: &mut [u8], i: u8) -> Reply
     requires { Good s.old × (i < 8) }
     ensures { Did (rule.publish controller (state_in s.old) i) s.old result s.new }
 {
-    if area::phase_at(s, i) != 4 {
-        return Reply::NotAllowed;
-    }
-    let v = area::fields_at(s, i);
-    let e = area::write_at(s, i, v.taken);
+    let slot = SlotView { area: s, index: i };
+    ways::in_phase(slot, Phase::Publishing)?;
+    let v = slot.fields();
+    let e = slot.write_entry(v.taken);
     let x = area::cell_at(s, e.cell);
     let published = Cell {
         kind: x.kind,
@@ -60,22 +58,22 @@ pub fn publish(s: &mut [u8], i: u8) -> Reply
         stamp: v.commit,
     };
     stores::store_fields_cell(s, i, v.published_one(), e.cell, published);
-    Reply::Done
+    Ok(Answer::Done)
 }
 
 // A publishing slot is committed, and an idle one has nothing to give up.
+#[tactic(auto, using(ways::proofs::Exits::exits), unfolding(rules::specs::Steps::give_up))]
 pub fn give_up(s: &mut [u8], i: u8) -> Reply
     requires { Good s.old × (i < 8) }
     ensures { Did (rule.give_up controller (state_in s.old) i) s.old result s.new }
 {
-    let phase = area::phase_at(s, i);
-    if phase == 0 {
-        return Reply::NotAllowed;
+    let slot = SlotView { area: s, index: i };
+    match Phase::of(slot) {
+        Phase::Idle | Phase::Publishing => Err(Refusal::NotAllowed),
+        Phase::Open | Phase::Locking | Phase::Twilight => {
+            let idled = slot.fields().idled();
+            stores::store_freed(s, i, idled);
+            Ok(Answer::Done)
+        }
     }
-    if phase == 4 {
-        return Reply::NotAllowed;
-    }
-    let v = area::fields_at(s, i);
-    stores::store_freed(s, i, v.idled());
-    Reply::Done
 }

@@ -1,3 +1,3 @@
-pub mod Tested
+pub mod Descriptions
 pub mod Parts
 pub mod Unique

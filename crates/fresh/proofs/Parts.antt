@@ -50,10 +50,11 @@ module _ (ds : List ℕ) where
       rw (described-length ds) (λ i. fresh_header (described_count ds) ++ cells i ++ slots i)
 
   -- put one after the other over a whole area they leave it packed
-  pub laid_out : (n : ℕ) (a x y z : List ℕ) → n ≡ described_count ds → length a ≡ 1590 + 14 * n
-      → x ≡ splice a 0 (fresh_header n) → y ≡ splice x 14 (fresh_cells n ds) → z ≡ splice y (14 + 14 * n) fresh_slots
+  pub laid_out : (a x y z : List ℕ) → length a ≡ 1590 + 14 * described_count ds
+      → x ≡ splice a 0 (fresh_header (described_count ds)) → y ≡ splice x 14 (fresh_cells (described_count ds) ds) → z ≡ splice y (14 + 14 * described_count ds) fresh_slots
       → z ≡ pack controller (fresh controller (described_cells ds))
-  laid_out n a x y z count long first second third =
+  laid_out a x y z long first second third =
+      let n = described_count ds in
       let head : length (fresh_header n) ≡ 14 = simp (length-append, length-to_be) in
       let cells : length (fresh_cells n ds) ≡ 14 * n =
       length-cat 14 n (λ c. cell_bytes 8 (described_cell (drop (5 * c) ds))) (λ c h. length-cell_bytes 8 (described_cell (drop (5 * c) ds))) in
@@ -63,7 +64,6 @@ module _ (ds : List ℕ) where
       splice-next a 0 (fresh_header n ++ fresh_cells n ds) fresh_slots y z (14 + 14 * n) (omega arith) (rw (length-append, head, cells) (omega arith)) two third in
       three
       ∙ splice-whole a (fresh_header n ++ fresh_cells n ds ++ fresh_slots) (rw (length-append, length-append, head, cells, slots) (omega arith))
-      ∙ ap (λ (m : ℕ). fresh_header m ++ fresh_cells m ds ++ fresh_slots) count
       ∙ parts
 
 -- the three ways out

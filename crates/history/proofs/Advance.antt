@@ -8,7 +8,7 @@ use native.Mathlib.Omega.{arith}
 use lib.ListN.{length, get_or, set, length-set}
 use borrow.Author.Tests.{not-true}
 use Rattle.call.specs.declared.Step.{Step}
-use Rattle.call.specs.declared.Reply.{Reply}
+use Rattle.call.specs.declared.Answer.{Answer}
 use Rattle.slot.specs.declared.ReadEntry.{ReadEntry}
 use Rattle.slot.specs.declared.WriteEntry.{WriteEntry}
 use Rattle.slot.specs.Logs.{put_write}
@@ -178,7 +178,7 @@ module _ (M : Model) (start : State) (L : List Commit) (R : List SharedRead) (S 
       (owing-case ignoring (suc count) begins commit reads writes (Fresh M start L) (λ b. tt) tt) (λ s other. along.new_stamps s))
       kinds))
 
-  pub advance : {s : Step} {r : Reply} {T : State} (m : Move M S i s r T) → Right M T → ((c : ℕ) → (cell_at T c).kind ≡ (cell_at S c).kind)
+  pub advance : {s : Step} {r : Answer} {T : State} (m : Move M S i s r T) → Right M T → ((c : ℕ) → (cell_at T c).kind ≡ (cell_at S c).kind)
       → Along M start (L ++ made m) (R ++ seen m) T
   advance (began x) = turns _ _ _ (early idle (opened S.clock [] []) x (λ k c o. o) (λ b c w. w) refl tt) tt tt
   advance (read-written x inside w) = λ right kinds. stays

@@ -5,9 +5,9 @@ use mathlib.Core.Option.{Option, none, some}
 use mathlib.Core.Path.{◌≡◌}
 use Prim.Native.Nat.{ℕ}
 use lib.Dec.{T, eqb, leb}
-use Rattle.call.specs.declared.Reply.{Reply}
-use Rattle.call.specs.declared.Reply.TheVariants.{NotAllowed, NotInLog}
-use Rattle.call.specs.Answer.{reply_code}
+use Rattle.call.specs.declared.Refusal.{Refusal}
+use Rattle.call.specs.Answer.{refusal_code}
+use Rattle.call.specs.declared.Refusal.TheVariants.{NotAllowed, NotInLog}
 use Rattle.slot.specs.declared.ReadEntry.{ReadEntry}
 use Rattle.slot.specs.declared.WriteEntry.{WriteEntry}
 use Rattle.rules.specs.State.{Slot, idle, opened, locking, twilight, publishing}
@@ -20,23 +20,23 @@ pub data Uncommitted : Slot → Type 0 where
   is-locking : {taken start : ℕ} {reads : List ReadEntry} {writes : List WriteEntry} → Uncommitted (locking taken start reads writes)
   is-twilight : {ignoring : Bool} {start commit : ℕ} {reads : List ReadEntry} {writes : List WriteEntry} → Uncommitted (twilight ignoring start commit reads writes)
 
--- a reply that refuses a step: its code is none of 0, 1 and 13
-abbrev pub Refusal : Reply → Type 0
-Refusal r = T (leb 2 (reply_code r)) × T (not (eqb (reply_code r) 13))
+-- a refusal of a step: its code is none of 0, 1 and 13
+abbrev pub OfStep : Refusal → Type 0
+OfStep r = T (leb 2 (refusal_code r)) × T (not (eqb (refusal_code r) 13))
 
 -- .. and doesn't say who is in the way: nor is it 11 or 14
-abbrev pub Bare : Reply → Type 0
-Bare r = Refusal r × T (not (eqb (reply_code r) 11)) × T (not (eqb (reply_code r) 14))
+abbrev pub Bare : Refusal → Type 0
+Bare r = OfStep r × T (not (eqb (refusal_code r) 11)) × T (not (eqb (refusal_code r) 14))
 
--- the proof for any reply whose code computes: `NotAllowed` stands for them
+-- the proof for any refusal whose code computes: `NotAllowed` stands for them
 abbrev pub bare : Bare NotAllowed
 bare = ((tt, tt), tt, tt)
 
-module _ (P : Outcome → Type 0) (refusal : (r : Reply) → Bare r → P (refused r)) where
+module _ (P : Outcome → Type 0) (refusal : (r : Refusal) → Bare r → P (refused r)) where
   pub cond-case : (t : Bool) (a b : Outcome) → (t ≡ true → P a) → (t ≡ false → P b) → P (cond t a b)
   cond-case = rules.cond-case P
 
-  pub refuse-case : (t : Bool) (r : Reply) → Bare r → (o : Outcome) → (t ≡ false → P o) → P (refuse_if t r o)
+  pub refuse-case : (t : Bool) (r : Refusal) → Bare r → (o : Outcome) → (t ≡ false → P o) → P (refuse_if t r o)
   refuse-case t r k o f = cond-case t (refused r) o (λ e. refusal r k) f
 
   pub log-case : {A : Type 0} (e : Option A) (o : A → Outcome) → ((x : A) → e ≡ some x → P (o x)) → P (in_log e o)

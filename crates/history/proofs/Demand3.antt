@@ -1,4 +1,5 @@
 -- Demand 3: what holds at rest is kept along any list of calls, and says at the end what the demand says.
+use Rattle.std.specs.Prelude.{Err}
 use mathlib.Core.Bool.{Bool, true, false, false≢true}
 use mathlib.Core.List.{List, [], ◌∷◌, ◌++◌, append-nil, append_assoc}
 use mathlib.Core.Path.{◌≡◌, refl, sym, ◌∙◌, ap}
@@ -7,7 +8,7 @@ use native.Mathlib.Omega.{arith}
 use lib.Dec.{ltb}
 use lib.ListN.{length, get_or-eq_default}
 use borrow.Author.Tests.{ltb-true, ltb-false}
-use Rattle.call.proofs.Number.{number-back}
+use Rattle.call.proofs.Numbers.{number-back}
 use Rattle.slot.specs.declared.ReadEntry.{ReadEntry}
 use Rattle.slot.specs.declared.WriteEntry.{WriteEntry}
 use Rattle.slot.specs.Logic.{◌and◌, any, pairwise, All}
@@ -171,7 +172,7 @@ module _ (M : Model) where
       step_case M S
       (λ o. Along M start (L ++ commit_in (record { before = S; call = a; reply = reply_of o })) (R ++ read_in (record { before = S; call = a; reply = reply_of o })) (after S o))
       (λ r k.
-      let e = event M S along.inv.right a r in
+      let e = event M S along.inv.right a (Err r) in
       rw (no-commit e (other-code e 12 (refusal-code r k)), no_read e (other-code e 2 (refusal-code r k)), append-nil L, append-nil R) along)
       a
       (λ s made h r T m.

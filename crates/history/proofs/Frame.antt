@@ -1,5 +1,6 @@
 -- A step leaves alone what its effect does not name, and goes by what two states that it can't tell apart have in common. A cell that it changes is an
 -- entry's in its write log, or one that it holds; and a well-formed slot holds only cells of its write log.
+use Rattle.std.specs.Prelude.{Ok, Err}
 use mathlib.Core.Bool.{Bool, true, false, false≢true}
 use mathlib.Core.List.{List}
 use mathlib.Core.Path.{◌≡◌, refl, sym, ◌∙◌, ap}
@@ -10,9 +11,10 @@ use lib.ListN.{get_or, get_or-eq_default}
 use lib.Seq.{get_or-set_other}
 use borrow.Author.Tests.{eqb-true}
 use Rattle.call.specs.declared.Step.{Step}
-use Rattle.call.specs.declared.Reply.{Reply}
+use Rattle.call.specs.declared.Answer.{Answer}
+use Rattle.call.specs.declared.Refusal.{Refusal}
 use Rattle.call.specs.Decode.{step_number}
-use Rattle.call.proofs.Number.{number-back}
+use Rattle.call.proofs.Numbers.{number-back}
 use Rattle.rules.specs.declared.Cell.{Cell}
 use Rattle.rules.specs.Model.{Model}
 use Rattle.rules.specs.State.{State, Slot, idle, opened, locking, twilight, publishing, cell_count, cell_at, slot_at, writes_of, no_cell}
@@ -68,8 +70,8 @@ module _ (M : Model) (S : State) (right : Right M S) (i c : ℕ) (out : writes_c
 
 module _ {S S' : State} {i : ℕ} where
   match-reply : {o o' : Outcome} → Matches S S' i o o' → reply_of o ≡ reply_of o'
-  match-reply (both-refused e c) = e
-  match-reply (both-accepted e c t) = e
+  match-reply (both-refused e c) = ap Err e
+  match-reply (both-accepted e c t) = ap Ok e
 
   match-after : {o o' : Outcome} {names : ℕ → Bool} → Alike S S' i names → Matches S S' i o o' → SameAfter S S' i (after S o) (after S' o')
   match-after a (both-refused e c) = record { clock = a.clock; slot = λ n. a.slot; cells = λ c q. q }
@@ -77,7 +79,7 @@ module _ {S S' : State} {i : ℕ} where
 
 -- what the effect of a step, or of none, leaves alone
 module _ (M : Model) (i : ℕ) (names : ℕ → Bool) (does : State → Outcome) where
-  framed : ((S : State) (P : Outcome → Type 0) → ((r : Reply) → P (refused r)) → ((s : Step) (r : Reply) (T : State) → Move M S i s r T → P (accepted r T)) → P (does S))
+  framed : ((S : State) (P : Outcome → Type 0) → ((r : Refusal) → P (refused r)) → ((s : Step) (r : Answer) (T : State) → Move M S i s r T → P (accepted r T)) → P (does S))
       → ((S S' : State) → Alike S S' i names → Matches S S' i (does S) (does S')) → StepFrame M i names does
   framed moves match =
       record {

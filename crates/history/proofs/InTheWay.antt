@@ -1,4 +1,5 @@
 -- Who is in the way: a hold by another slot is a hold of the one that the cell names, since holders are right, and the three refusals that say so have shown it.
+use Rattle.std.specs.Prelude.{Ok, Err}
 use mathlib.Core.Bool.{true, false, not}
 use mathlib.Core.List.{List}
 use mathlib.Core.Logic.{inl, inr}
@@ -11,11 +12,10 @@ use lib.ListN.{length, get_or, get_or-eq_default}
 use borrow.Author.Tests.{eqb-false, eq-eqb, not-true}
 use Rattle.call.specs.declared.Step.{Step}
 use Rattle.call.specs.declared.Step.TheVariants.{Read, Lock, Reload}
-use Rattle.call.specs.declared.Decoded.TheVariants.{Made}
-use Rattle.call.specs.declared.Reply.{Reply}
+use Rattle.call.specs.declared.Refusal.{Refusal}
 use Rattle.call.specs.Answer.{held_word}
 use Rattle.call.specs.Decode.{decoded}
-use Rattle.call.proofs.Number.{number-back}
+use Rattle.call.proofs.Numbers.{number-back}
 use Rattle.slot.specs.declared.ReadEntry.{ReadEntry}
 use Rattle.slot.specs.Layout.{no_read}
 use Rattle.slot.proofs.Logic.{and_left, and_right}
@@ -86,7 +86,7 @@ silent not-11 not-14 =
       reload_first = λ e s. absurd (not-11 e);
     }
 
-bare-silent : {M : Model} {S : State} {a : Call} (r : Reply) → Bare r → Says M S a r
+bare-silent : {M : Model} {S : State} {a : Call} (r : Refusal) → Bare r → Says M S a (Err r)
 bare-silent r k = silent (λ e. rw e at k.1) (λ e. rw e at k.2)
 
 module _ (M : Model) (fits : FitsBytes M) (S : State) (right : Right M S) (a : Call) where
@@ -112,7 +112,7 @@ module _ (M : Model) (fits : FitsBytes M) (S : State) (right : Right M S) (a : C
       → let word = held_word c (cell_at S c).holder in InTheWay M S a.slot (word / 256) (word % 256)
   at-cell c held = rw ((apart c).0, (apart c).1) (in-the-way S i c held M right a.slot refl)
 
-  said : (s : Step) (r : Reply) → decoded a.step a.cell a.kind a.word ≡ Made s → Declined S i s r → Says M S a r
+  said : (s : Step) (r : Refusal) → decoded a.step a.cell a.kind a.word ≡ Ok s → Declined S i s r → Says M S a (Err r)
   said s r made (bare-refusal k) = bare-silent r k
   said s r made (read_held {c = c} held) =
       let number : a.step ≡ 2 = number-back a.step a.cell a.kind a.word (Read c) made in
@@ -141,7 +141,7 @@ module _ (M : Model) (fits : FitsBytes M) (S : State) (right : Right M S) (a : C
         reload_first = λ e s. rw x (obstacle-first reads y o (apart y.cell).0);
       }
 
-  goes : (s : Step) → decoded a.step a.cell a.kind a.word ≡ Made s → (o : Outcome) → Lawful M S i s o → Coded o → Says M S a (reply_of o)
+  goes : (s : Step) → decoded a.step a.cell a.kind a.word ≡ Ok s → (o : Outcome) → Lawful M S i s o → Coded o → Says M S a (reply_of o)
   goes s made (refused r) k coded = said s r made k
   goes s made (accepted r T) m coded =
       silent (λ e. acceptance r coded (λ z. omega arith, λ z. omega arith)) (λ e. acceptance r coded (λ z. omega arith, λ z. omega arith))

@@ -13,8 +13,10 @@ use Rattle.value.specs.Legal.{legal_word}
 use Rattle.value.specs.Value.{kind_of, word_of}
 use Rattle.call.specs.declared.Step.{Step}
 use Rattle.call.specs.declared.Step.TheVariants.{Begin, Read, Write, Close, Lock, Enter, Reread, Update, Ask, Reload, Ignore, Finish, Publish, GiveUp}
-use Rattle.call.specs.declared.Reply.{Reply}
-use Rattle.call.specs.declared.Reply.TheVariants.{Done, Verdict, NotAllowed, MarkedWritten, NoSuchCell, IllegalValue, OtherKind, LogFull, ReadHeld, ReadNewer, LockHeld, ReloadHeld, LastStamp, Aborted}
+use Rattle.call.specs.declared.Answer.{Answer}
+use Rattle.call.specs.declared.Refusal.{Refusal}
+use Rattle.call.specs.declared.Answer.TheVariants.{Done, Verdict, Aborted}
+use Rattle.call.specs.declared.Refusal.TheVariants.{NotAllowed, MarkedWritten, NoSuchCell, IllegalValue, OtherKind, LogFull, ReadHeld, ReadNewer, LockHeld, ReloadHeld, LastStamp}
 use Rattle.slot.specs.declared.ReadEntry.{ReadEntry}
 use Rattle.slot.specs.declared.WriteEntry.{WriteEntry}
 use Rattle.slot.specs.Layout.{read_capacity, write_capacity, no_write}
@@ -40,7 +42,7 @@ new_read S c = record { cell = c; mark = false; word = (cell_at S c).word }
 abbrev pub new_write : ℕ → CellValue → WriteEntry
 new_write c v = record { cell = c; word = word_of v }
 
-pub data Move (M : Model) (S : State) (i : ℕ) : Step → Reply → State → Type 0 where
+pub data Move (M : Model) (S : State) (i : ℕ) : Step → Answer → State → Type 0 where
   began : slot_at S i ≡ idle → Move M S i Begin Done (turn S i S.clock S.cells (opened S.clock [] []))
   -- answered from a log; rereads, asks; an ignore that changes nothing
   read-written : {start c : ℕ} {reads : List ReadEntry} {writes : List WriteEntry} {e : WriteEntry}
@@ -88,8 +90,8 @@ pub data Move (M : Model) (S : State) (i : ℕ) : Step → Reply → State → T
   gave-up : Uncommitted (slot_at S i) → Move M S i GiveUp Done (turn S i S.clock (free_all i S.cells) idle)
 
 -- why a step is refused: bare, or another slot holds a cell, with what the tests have shown
-pub data Declined (S : State) (i : ℕ) : Step → Reply → Type 0 where
-  bare-refusal : {s : Step} {r : Reply} → Bare r → Declined S i s r
+pub data Declined (S : State) (i : ℕ) : Step → Refusal → Type 0 where
+  bare-refusal : {s : Step} {r : Refusal} → Bare r → Declined S i s r
   read_held : {c : ℕ} → held_by_other i (cell_at S c) ≡ true → Declined S i (Read c) (ReadHeld (cell_at S c).holder)
   lock-held : {count start c : ℕ} {reads : List ReadEntry} {writes : List WriteEntry}
       → slot_at S i ≡ locking count start reads writes → count < length writes → c ≡ (get_or writes count no_write).cell → held_by_other i (cell_at S c) ≡ true

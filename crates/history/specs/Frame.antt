@@ -1,10 +1,9 @@
 -- What a step leaves alone, and what it goes by. Slot i is counted from 0: it is slot i + 1 of document 01.
-use Rattle.std.specs.Prelude.{Bool, true, false, ◌≡◌, ℕ, pred, eqb, length}
+use Rattle.std.specs.Prelude.{Bool, true, false, ◌≡◌, ℕ, pred, eqb, length, Ok, Err}
 use Rattle.call.specs.declared.Step.{Step}
 use Rattle.call.specs.declared.Step.TheVariants.{Begin, Read, Write, Close, Lock, Enter, Reread, Update, Ask, Reload, Ignore, Finish, Publish, GiveUp}
-use Rattle.call.specs.declared.Decoded.{Decoded}
-use Rattle.call.specs.declared.Decoded.TheVariants.{Made, IllegalWrite, IllegalUpdate, Unknown}
-use Rattle.call.specs.Decode.{decoded}
+use Rattle.call.specs.Decode.{Decoded, decoded}
+use Rattle.call.specs.declared.Undecoded.TheVariants.{IllegalWrite, IllegalUpdate, Unknown}
 use Rattle.slot.specs.Logic.{◌or◌}
 use Rattle.rules.specs.Model.{Model}
 use Rattle.rules.specs.State.{State, Slot, cell_count, cell_at, slot_at, reads_of, writes_of}
@@ -32,10 +31,10 @@ names_cell GiveUp c = false
 
 -- .. and the cell that a call names, if its step uses one
 abbrev pub named_by : Decoded → ℕ → Bool
-named_by (Made s) c = names_cell s c
-named_by (IllegalWrite d) c = eqb d c
-named_by (IllegalUpdate d) c = eqb d c
-named_by Unknown c = false
+named_by (Ok s) c = names_cell s c
+named_by (Err (IllegalWrite d)) c = eqb d c
+named_by (Err (IllegalUpdate d)) c = eqb d c
+named_by (Err Unknown) c = false
 
 abbrev pub call_names : Call → ℕ → Bool
 call_names a = named_by (decoded a.step a.cell a.kind a.word)

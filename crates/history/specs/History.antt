@@ -1,8 +1,7 @@
 -- Demand 3. A history is what happened, call by call; the reads and the commits that the demand speaks of are functions of it.
 use Rattle.std.specs.Prelude.{Bool, true, false, not, cond, List, [], ◌∷◌, ◌++◌, ◌≡◌, ℕ, zero, suc, pred, ◌<◌, ◌≤◌, eqb}
 use Rattle.std.proofs.Math.Option.{Option, none, some}
-use Rattle.call.specs.declared.Reply.{Reply}
-use Rattle.call.specs.Answer.{reply_code, reply_kind, reply_word}
+use Rattle.call.specs.Answer.{Reply, reply_code, reply_kind, reply_word}
 use Rattle.slot.specs.declared.ReadEntry.{ReadEntry}
 use Rattle.slot.specs.declared.WriteEntry.{WriteEntry}
 use Rattle.slot.specs.Logic.{◌and◌, pairwise, All}

@@ -1,7 +1,6 @@
 -- "Tell us who is in the way": what kind and word of the codes 11 and 14 say, so that a scheduler can rely on it.
 use Rattle.std.specs.Prelude.{true, false, ◌⊎◌, ◌≡◌, ℕ, pred, ◌/◌, ◌%◌, ◌<◌, ◌≤◌, length, get_or}
-use Rattle.call.specs.declared.Reply.{Reply}
-use Rattle.call.specs.Answer.{reply_code, reply_kind, reply_word}
+use Rattle.call.specs.Answer.{Reply, reply_code, reply_kind, reply_word}
 use Rattle.slot.specs.Layout.{no_read, no_write}
 use Rattle.rules.specs.Model.{Model}
 use Rattle.rules.specs.State.{State, cell_count, cell_at, slot_at, reads_of, writes_of, taken_of}

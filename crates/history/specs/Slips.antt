@@ -1,7 +1,8 @@
 -- The slips that look right, and half of a wrong core, as steps that differ from the right one in a row or two, and for each a history that shows it. The wrong cores, whole,
 -- are in `tested/specs/WrongCores.antt`.
 use Rattle.std.specs.Prelude.{true, false, not, cond, List, [], ◌∷◌, ◌++◌, map, ℕ, suc, pred, eqb, ltb, leb, length, get_or, set}
-use Rattle.call.specs.declared.Reply.TheVariants.{Done, Verdict, NotAllowed, LogFull, ReadNewer}
+use Rattle.call.specs.declared.Answer.TheVariants.{Done, Verdict}
+use Rattle.call.specs.declared.Refusal.TheVariants.{NotAllowed, LogFull, ReadNewer}
 use Rattle.slot.specs.declared.ReadEntry.{ReadEntry}
 use Rattle.slot.specs.declared.WriteEntry.{WriteEntry}
 use Rattle.slot.specs.Layout.{read_capacity, no_write}

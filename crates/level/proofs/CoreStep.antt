@@ -2,7 +2,7 @@
 use mathlib.Core.List.{List, [], ◌∷◌}
 use mathlib.Core.Path.{◌≡◌, sym, ◌∙◌, ap}
 use Prim.Native.Nat.{ℕ}
-use Rattle.call.specs.declared.Reply.{Reply}
+use Rattle.call.specs.Answer.{Reply}
 use Rattle.call.specs.Decode.{decoded}
 use Rattle.rules.specs.Model.{controller}
 use Rattle.rules.specs.Outcome.{Outcome, reply_of, after}

@@ -1,14 +1,13 @@
 -- What the words of all cells say: a law for each way out.
 use mathlib.Core.List.{List}
-use mathlib.Core.Option.{Option, none, some}
 use mathlib.Core.Path.{◌≡◌, refl, sym, ◌∙◌, ap}
-use Prim.Native.Nat.{ℕ, suc, ◌+◌, ◌*◌, ◌^◌, ◌<◌, ◌≤◌}
+use Prim.Native.Nat.{ℕ, suc, ◌+◌, ◌*◌, ◌/◌, ◌<◌}
 use native.Mathlib.Numerals.{add-one}
 use native.Mathlib.Omega.{arith}
-use lib.ListN.{get_or}
-use Rattle.call.specs.declared.Decoded.{Decoded}
-use Rattle.call.specs.declared.Reply.{Reply}
-use Rattle.call.specs.Decode.{decoded}
+use lib.ListN.{length, get_or}
+use Rattle.std.specs.Prelude.{None, Some}
+use Rattle.call.specs.Answer.{Reply}
+use Rattle.call.specs.Decode.{Decoded, decoded}
 use Rattle.rules.specs.Model.{controller}
 use Rattle.rules.specs.Step.{step_of}
 use Rattle.rules.specs.Layout.{pack}
@@ -17,68 +16,57 @@ use Rattle.area.proofs.Good.{good-kept}
 use Rattle.ways.specs.Did.{Did}
 use Rattle.pick.specs.Groups.{erases, last_count}
 use Rattle.pick.specs.Pick.{negative_at, picked}
-use Rattle.pick.specs.Found.{found_or, negative_place, picked_group}
 use Rattle.pick.proofs.PicksRight.{picks-right}
 use Rattle.wearset.specs.WearSet.{group_count}
 use Rattle.level.specs.Level.{write_of, writing, judged, levelled_number}
+use Rattle.level.specs.Answer.{at_place}
 use Rattle.level.specs.Reached.{Comes}
 use Rattle.level.proofs.CoreStep.{stepping}
 
 -- the count plus one is written, and the group's number answered
 pub write-comes : (l set words : List ℕ) (slot g : ℕ) (d : Decoded) (reply : Reply) (l' : List ℕ) → Good l
     → d ≡ decoded 3 (get_or set (2 * g + 1) 0) 2 (get_or words (2 * g + 1) 0 + 1) → Did (step_of controller (state_in l) slot d) l reply l'
-    → Comes (writing controller (state_in l) slot set words (some g)) (2 * 2 ^ 32 + g) l'
+    → Comes (writing controller (state_in l) slot set words (Some g)) (at_place 0 0 2 g) l'
 unfolding levelled_number
 write-comes l set words slot g d reply l' good e did =
     let call = write_of slot (get_or set (2 * g + 1) 0) (suc (erases words g)) in
     let made = stepping l good call {reply = reply} {l' = l'} (rw (e, add-one (get_or words (2 * g + 1) 0)) at did) in
     record { answer = omega arith; bytes = good-kept l' made.good ∙ ap (pack controller) made.state }
 
--- the number that a search answers says what it found, where it finds nothing from `nothing` on
-found : (nothing k : ℕ) (o : Option ℕ) → k ≡ found_or nothing o → k < nothing → o ≡ some k
-found nothing k none e h = absurd (omega arith)
-found nothing k (some p) e h = ap some (sym e)
+-- the words are those of a set's cells, as many as it has
+module _ (set words : List ℕ) (size : length words ≡ length set) where
+  groups-are : length words / 2 ≡ group_count set
+  groups-are = ap (λ (n : ℕ). n / 2) size
 
-not_found : (nothing k : ℕ) (o : Option ℕ) → ((p : ℕ) → o ≡ some p → p < nothing) → k ≡ found_or nothing o → nothing ≤ k → o ≡ none
-not_found nothing k none below e h = refl
-not_found nothing k (some p) below e h = let low = below p refl in absurd (omega arith)
+  -- the place of a negative count, and the group that is picked, are inside the set, and the count of that group can be raised
+  pub place-inside : (place : ℕ) → Some place ≡ negative_at words (length words / 2) → place < length set
+  place-inside place e =
+      let first = picks-right.first words (length words / 2) place (sym e) in
+      let inside = first.1.inside in
+      let there = first.2 in
+      omega arith
 
-module _ (words : List ℕ) (groups : ℕ) where
-  -- the first negative count, or none
-  found-place : (place : ℕ) → place ≡ negative_place words groups → place < 2 * groups → negative_at words groups ≡ some place
-  found-place place = found (2 * groups) place (negative_at words groups)
+  module _ (g : ℕ) (e : Some g ≡ picked words (length words / 2)) where
+    pub group-inside : 2 * g + 1 < length set
+    group-inside = let inside = (picks-right.pick words (length words / 2) g (sym e)).inside in omega arith
 
-  found_none : (place : ℕ) → place ≡ negative_place words groups → 2 * groups ≤ place → negative_at words groups ≡ none
-  found_none place =
-      not_found (2 * groups) place (negative_at words groups)
-      (λ p e. let first = picks-right.first words groups p e in let inside = first.1.inside in let there = first.2 in omega arith)
+    pub picked-below : erases words g < last_count
+    picked-below = (picks-right.pick words (length words / 2) g (sym e)).below
 
-  -- the picked group, or none
-  pub found-group : (g : ℕ) → g ≡ picked_group words groups → g < groups → picked words groups ≡ some g
-  found-group g = found groups g (picked words groups)
-
-  no-group : (g : ℕ) → g ≡ picked_group words groups → groups ≤ g → picked words groups ≡ none
-  no-group g = not_found groups g (picked words groups) (λ p e. (picks-right.pick words groups p e).inside)
-
-  -- the count of the group that is picked can be raised
-  pub picked-below : (g : ℕ) → g ≡ picked_group words groups → g < groups → erases words g < last_count
-  picked-below g e h = (picks-right.pick words groups g (found-group g e h)).below
-
-module _ (l set words : List ℕ) (slot place : ℕ) (good : Good l) (said : place ≡ negative_place words (group_count set)) where
-  -- 33
-  pub negative-comes : (r : ℕ) → place < 2 * group_count set → r ≡ place * 2 ^ 48 + 33 * 2 ^ 40 → Comes (judged controller (state_in l) slot set words) r l
-  unfolding levelled_number
-  negative-comes r h e = rw (found-place words (group_count set) place said h) (record { answer = omega arith; bytes = good-kept l good })
-
-  module _ (sound : 2 * group_count set ≤ place) (g : ℕ) (chosen : g ≡ picked_group words (group_count set)) where
-    -- 34
-    pub none-comes : (r : ℕ) → group_count set ≤ g → r ≡ 34 * 2 ^ 40 → Comes (judged controller (state_in l) slot set words) r l
+  module _ (l : List ℕ) (slot : ℕ) where
+    -- 33
+    pub negative-comes : (place : ℕ) → Some place ≡ negative_at words (length words / 2) → Good l
+        → Comes (judged controller (state_in l) slot set words) (at_place place 33 0 0) l
     unfolding levelled_number
-    none-comes r h e =
-        rw (found_none words (group_count set) place said sound, no-group words (group_count set) g chosen h)
-        (record { answer = omega arith; bytes = good-kept l good })
+    negative-comes place e good = rw (← groups-are, ← e) (record { answer = omega arith; bytes = good-kept l good })
 
-    -- picked
-    pub picked-comes : (r : ℕ) (l' : List ℕ) → g < group_count set → Comes (writing controller (state_in l) slot set words (some g)) r l'
-        → Comes (judged controller (state_in l) slot set words) r l'
-    picked-comes r l' h comes = rw (found_none words (group_count set) place said sound, found-group words (group_count set) g chosen h) comes
+    module _ (sound : None ≡ negative_at words (length words / 2)) where
+      -- 34
+      pub none-comes : None ≡ picked words (length words / 2) → Good l → Comes (judged controller (state_in l) slot set words) (at_place 0 34 0 0) l
+      unfolding levelled_number
+      none-comes e good = rw (← groups-are, ← sound, ← groups-are, ← e) (record { answer = refl; bytes = good-kept l good })
+
+      -- picked
+      pub picked-comes : (g r : ℕ) (l' : List ℕ) → Some g ≡ picked words (length words / 2) → Comes (writing controller (state_in l) slot set words (Some g)) r l'
+          → Comes (judged controller (state_in l) slot set words) r l'
+      picked-comes g r l' e comes = rw (← groups-are, ← sound, ← groups-are, ← e) comes

@@ -1,6 +1,5 @@
 pub mod CoreStep
 pub mod Reading
-pub mod GroupReads
 pub mod Judging
 pub mod Levels
 pub mod Unique

@@ -1,176 +1,172 @@
--- One read more: what the core's number says of it, and that a refused read leaves the state.
-use mathlib.Core.Bool.{true, false, not, false≢true}
-use mathlib.Core.List.{List, [], ◌∷◌, ◌++◌}
-use mathlib.Core.Path.{◌≡◌, refl, sym, ◌∙◌, ap, subst}
-use Prim.Native.Nat.{ℕ, zero, suc, pred, ◌+◌, ◌*◌, ◌%◌, ◌^◌, ◌<◌, ◌≤◌}
+-- The reads of a set, one cell more: where the loop stands before a place, and how it goes on.
+use mathlib.Core.Bool.{false, not, false≢true}
+use mathlib.Core.List.{List}
+use mathlib.Core.Path.{◌≡◌, refl, sym, ◌∙◌, ap}
+use Prim.Native.Nat.{ℕ, zero, suc, pred, ◌+◌, ◌-◌, ◌<◌, ◌≤◌}
+use native.Mathlib.Numerals.{add-one}
 use native.Mathlib.Omega.{arith}
 use lib.Dec.{eqb, leb}
-use lib.ListN.{length, get_or, take, set as replaced, length-append}
-use lib.Seq.{length-take-le, take-suc-set}
-use borrow.Author.Tests.{eq-eqb, ne_eqb}
-use Rattle.call.specs.declared.Reply.{Reply}
+use lib.ListN.{length, get_or, take, set as replaced, length-set}
+use lib.Seq.{take-suc-set}
+use Rattle.std.specs.Prelude.{Result, Ok, Err}
+use Rattle.std.proofs.lemmas.List.{take_all}
+use Rattle.value.specs.Value.{word_of}
+use Rattle.call.specs.declared.Answer.TheVariants.{Done, Verdict, Value, Aborted}
+use Rattle.call.specs.declared.Refusal.{Refusal}
+use Rattle.call.specs.declared.Refusal.TheVariants.{NotWellFormed, NoSuchStep, NoSuchSlot, NotAllowed, MarkedWritten, NoSuchCell, IllegalValue, OtherKind, NotInLog, LogFull, ReadHeld, ReadNewer, LockHeld, ReloadHeld, LastStamp}
 use Rattle.call.specs.declared.Step.TheVariants.{Read}
-use Rattle.call.specs.declared.Decoded.TheVariants.{Made}
-use Rattle.call.specs.Answer.{reply_code, reply_word, reply_number}
+use Rattle.call.specs.Answer.{Reply, reply_code, refusal_code}
 use Rattle.call.specs.Decode.{decoded}
-use Rattle.call.proofs.Answer.{code-bound, kind-bound, number-splits}
 use Rattle.slot.specs.Layout.{read_capacity}
 use Rattle.slot.specs.Logic.{◌and◌}
 use Rattle.slot.specs.Logs.{read_entry, write_entry}
 use Rattle.rules.specs.Model.{Model, controller}
 use Rattle.rules.specs.State.{State, cell_count, cell_at, slot_at}
 use Rattle.rules.specs.Cells.{held_by_other, newer}
-use Rattle.rules.specs.Outcome.{Outcome, reply_of, after}
+use Rattle.rules.specs.Outcome.{Outcome, refused, accepted, reply_of, after}
 use Rattle.rules.specs.Steps.{read_shared, read}
 use Rattle.rules.specs.Step.{step_of, step}
 use Rattle.rules.specs.Layout.{pack}
 use Rattle.rules.proofs.Cases.{cond-case, found-case, open-case}
-use Rattle.rules.proofs.Controller.{controller-fits}
-use Rattle.history.proofs.Keeps.Lists.{cond-elim}
 use Rattle.area.specs.Good.{Good, state_in}
 use Rattle.area.proofs.Good.{good-kept}
 use Rattle.ways.specs.Did.{Did}
-use Rattle.crocktendril.proofs.Words.{formed-word}
+use Rattle.level.specs.declared.Unlevelled.{Unlevelled}
+use Rattle.level.specs.declared.Unlevelled.TheVariants.{Core}
 use Rattle.level.specs.Level.{read_of, Reading, going, stopped, read_at, read_first}
-use Rattle.level.specs.Reached.{Going, Stopped, Reached}
+use Rattle.level.specs.Reached.{word_read, WasRead, Reached}
 use Rattle.level.proofs.CoreStep.{Stepping, stepping}
 
--- a code other than 0 leaves the state
+-- what a read comes to: a cell's value, or a refusal
+abbrev IsRead : Outcome → Type 0
+IsRead (refused r) = Unit {0}
+IsRead (accepted (Value v) T) = Unit {0}
+IsRead (accepted Done T) = ⊥
+IsRead (accepted (Verdict b) T) = ⊥
+IsRead (accepted Aborted T) = ⊥
+
+read_is : (M : Model) (S : State) (slot c : ℕ) → IsRead (step M S (read_of slot c))
+unfolding step step_of decoded read read_shared ◌and◌
+read_is M S slot c =
+    cond-case IsRead (not (leb 1 slot and leb slot M.slots)) _ _ (λ p. tt) λ p.
+    open-case IsRead (slot_at S (pred slot)) _ (λ p. tt) λ start reads writes x.
+    cond-case IsRead (leb (cell_count S) c) _ _ (λ p. tt) λ p.
+    found-case IsRead (write_entry writes c) _ _ (λ w p. tt) λ p.
+    found-case IsRead (read_entry reads c) _ _ (λ w p. tt) λ p.
+    cond-case IsRead (leb read_capacity (length reads)) _ _ (λ p. tt) λ p.
+    cond-case IsRead (held_by_other (pred slot) (cell_at S c)) _ _ (λ p. tt) λ p.
+    cond-case IsRead (newer start (cell_at S c)) _ _ (λ p. tt) λ p. tt
+
+-- no refusal has code 0
+some_code : (r : Refusal) → eqb (refusal_code r) 0 ≡ false
+some_code NotWellFormed = refl
+some_code NoSuchStep = refl
+some_code NoSuchSlot = refl
+some_code NotAllowed = refl
+some_code MarkedWritten = refl
+some_code NoSuchCell = refl
+some_code IllegalValue = refl
+some_code OtherKind = refl
+some_code NotInLog = refl
+some_code LogFull = refl
+some_code (ReadHeld holder) = refl
+some_code ReadNewer = refl
+some_code (LockHeld cell holder) = refl
+some_code (ReloadHeld cell holder) = refl
+some_code LastStamp = refl
+
+-- a read that is refused leaves the state, whatever it is
 abbrev pub Kept : State → Outcome → Type 0
 Kept S o = eqb (reply_code (reply_of o)) 0 ≡ false → after S o ≡ S
 
--- a read that is refused leaves the state, whatever it is
 pub read_kept : (M : Model) (S : State) (slot c : ℕ) → Kept S (step M S (read_of slot c))
-unfolding step step_of decoded read read_shared ◌and◌
-read_kept M S slot c =
-    cond-case (Kept S) (not (leb 1 slot and leb slot M.slots)) _ _ (λ p e. refl) λ p.
-    open-case (Kept S) (slot_at S (pred slot)) _ (λ p e. refl) λ start reads writes x.
-    cond-case (Kept S) (leb (cell_count S) c) _ _ (λ p e. refl) λ p.
-    found-case (Kept S) (write_entry writes c) _ _ (λ w p e. refl) λ p.
-    found-case (Kept S) (read_entry reads c) _ _ (λ w p e. refl) λ p.
-    cond-case (Kept S) (leb read_capacity (length reads)) _ _ (λ p e. refl) λ p.
-    cond-case (Kept S) (held_by_other (pred slot) (cell_at S c)) _ _ (λ p e. refl) λ p.
-    cond-case (Kept S) (newer start (cell_at S c)) _ _ (λ p e. refl) λ p e. absurd (false≢true (sym e))
+read_kept M S slot c = by (step M S (read_of slot c)) (read_is M S slot c)
+  where
+    by : (o : Outcome) → IsRead o → Kept S o
+    by (refused r) is e = refl
+    by (accepted (Value v) T) is e = absurd (false≢true (sym e))
+    by (accepted Done T) is e = absurd is
+    by (accepted (Verdict b) T) is e = absurd is
+    by (accepted Aborted T) is e = absurd is
 
--- the code is 0 exactly if the number is below 2^40
-code-zero : (r : Reply) → reply_word r < 2 ^ 32 → reply_number r < 2 ^ 40 → reply_code r ≡ 0
-unfolding reply_number
-code-zero r w h = omega arith
-
-code_other : (r : Reply) → reply_word r < 2 ^ 32 → 2 ^ 40 ≤ reply_number r → 1 ≤ reply_code r
-unfolding reply_number
-code_other r w h = let k = kind-bound r in omega arith
-
--- an array that begins with some words, and a further word put behind them
-one_kept : (array words : List ℕ) (place word : ℕ) → place < length array → words ≡ take place array
-    → take (length (words ++ (word ∷ []))) (replaced array place word) ≡ words ++ (word ∷ [])
-one_kept array words place word h before =
-    let count : length words ≡ place = rw before (length-take-le place array (omega arith)) in
-    let more : length (words ++ (word ∷ [])) ≡ suc place = let sum = length-append words (word ∷ []) in omega arith in
-    rw more (take-suc-set array place word h) ∙ ap (λ (w : List ℕ). w ++ (word ∷ [])) (sym before)
-
-module _ (l : List ℕ) (slot c : ℕ) (good : Good l) {reply : Reply} {l' : List ℕ}
-    (did : Did (step_of controller (state_in l) slot (Made (Read c))) l reply l') where
-  abbrev o : Outcome
-  o = step controller (state_in l) (read_of slot c)
-
-  read-stepping : Stepping l (read_of slot c) reply l'
+-- a step of the core that reads the cell at a place
+module _ (l : List ℕ) (slot : ℕ) (set : List ℕ) (place : ℕ) (good : Good l) {reply : Reply} {l' : List ℕ}
+    (did : Did (step_of controller (state_in l) slot (Ok (Read (get_or set place 0)))) l reply l') where
+  read-stepping : Stepping l (read_of slot (get_or set place 0)) reply l'
   unfolding decoded
-  read-stepping = stepping l good (read_of slot c) did
+  read-stepping = stepping l good (read_of slot (get_or set place 0)) did
 
-  word_fits : reply_word reply < 2 ^ 32
-  word_fits = rw read-stepping.reply_is (formed-word controller l good.right controller-fits (read_of slot c))
+  pub was-read : (r : Result ℕ Unlevelled) → r ≡ word_read place reply → WasRead (state_in l) slot set place r l'
+  was-read r e =
+      let made = read-stepping in
+      record { answer = e ∙ ap (word_read place) made.reply_is; good = made.good; state = made.state }
 
-  -- .. so there is room for the place above its number
-  pub read_number : (number : ℕ) → number ≡ reply_number reply → number < 2 ^ 44
-  unfolding reply_number
-  read_number number n =
-      let code = code-bound reply in
-      let kind = kind-bound reply in
-      let word = word_fits in
-      omega arith
+module _ (l₀ : List ℕ) (slot : ℕ) (set : List ℕ) where
+  abbrev reads_to : ℕ → Reading
+  reads_to n = read_first controller (state_in l₀) slot set n
 
-  -- the core refused
-  pub read-stops : (set words array : List ℕ) (place number r : ℕ) → get_or set place 0 ≡ c → number ≡ reply_number reply → 2 ^ 40 ≤ number
-      → r ≡ place * 2 ^ 48 + number → Reached (read_at controller slot set place (going words (state_in l))) r l' array
-  unfolding read_at
-  read-stops set words array place number r there n other e =
-      let code : 1 ≤ reply_code reply = code_other reply word_fits (omega arith) in
-      let here = read-stepping.reply_is in
-      let no_zero : eqb (reply_code (reply_of o)) 0 ≡ false = rw (← here) (ne_eqb (reply_code reply) 0 (λ z. omega arith)) in
-      let state = read-stepping.state ∙ read_kept controller (state_in l) slot c no_zero in
-      let stops : Stopped place (reply_of o) (state_in l) r l' =
-      record {
-        answer = e ∙ ap (λ k. place * 2 ^ 48 + k) (n ∙ ap reply_number here);
-        refusal = rw (← here) code;
-        bytes = good-kept l' read-stepping.good ∙ ap (pack controller) state;
-      } in
-      rw (there, no_zero) stops
+  -- before a place the cells of all places below it are read
+  pub record AtPlace (place : ℕ) (l words : List ℕ) : Type 0 where
+    pub size : length words ≡ length set
+    pub good : Good l
+    pub reads : reads_to place ≡ going (take place words) (state_in l)
 
-  -- the cell was read
-  pub read_goes : (set words array : List ℕ) (place number word : ℕ) → get_or set place 0 ≡ c → number ≡ reply_number reply → number < 2 ^ 40
-      → word ≡ number % 2 ^ 32 → place < length array → words ≡ take place array
-      → Reached (read_at controller slot set place (going words (state_in l))) 0 l' (replaced array place word)
-  unfolding read_at
-  read_goes set words array place number word there n low e h before =
-      let code : reply_code reply ≡ 0 = code-zero reply word_fits (omega arith) in
-      let here = read-stepping.reply_is in
-      let zero-code : eqb (reply_code (reply_of o)) 0 ≡ true = rw (← here) (eq-eqb (reply_code reply) 0 code) in
-      let same : word ≡ reply_word (reply_of o) = e ∙ ap (λ k. k % 2 ^ 32) n ∙ (number-splits reply word_fits).2 ∙ ap reply_word here in
-      let goes : Going (words ++ (reply_word (reply_of o) ∷ [])) (after (state_in l) o) 0 l' (replaced array place word) =
-      record { nothing = refl; good = read-stepping.good; state = read-stepping.state; kept = subst (λ w. take (length (words ++ (w ∷ []))) (replaced array place word) ≡ words ++ (w ∷ [])) same (one_kept array words place word h before) } in
-      rw (there, zero-code) goes
-
--- how many words there are
-abbrev Counted : ℕ → Reading → Type 0
-Counted n (going words S) = length words ≡ n
-Counted n (stopped place reply S) = Unit
-
-module _ (M : Model) (slot : ℕ) (set : List ℕ) where
-  counted-read : (n place : ℕ) (R : Reading) → Counted n R → Counted (suc n) (read_at M slot set place R)
-  unfolding read_at
-  counted-read n place (going words S) e =
-      cond-elim (Counted (suc n)) (eqb (reply_code (reply_of (step M S (read_of slot (get_or set place 0))))) 0) _ _
-      (λ p. let sum = length-append words (reply_word (reply_of (step M S (read_of slot (get_or set place 0)))) ∷ []) in omega arith) (λ p. tt)
-  counted-read n place (stopped at reply S) e = tt
-
-  pub counted-first : (S : State) (n : ℕ) → Counted n (read_first M S slot set n)
+  pub at_first : (words : List ℕ) → length words ≡ length set → Good l₀ → AtPlace 0 l₀ words
   unfolding read_first
-  counted-first S zero = refl
-  counted-first S (suc n) = counted-read n n (read_first M S slot set n) (counted-first S n)
+  at_first words size good = record { size = size; good = good; reads = refl }
 
--- an answer of 0 says that the reads go on, any other that they have stopped
-refusal-number : (place : ℕ) (reply : Reply) → 1 ≤ reply_code reply → place * 2 ^ 48 + reply_number reply ≡ 0 → ⊥
-unfolding reply_number
-refusal-number place reply code e = omega arith
+  -- reads that have stopped stay so
+  stays-stopped : (more n place : ℕ) (reply : Reply) (S : State) → reads_to n ≡ stopped place reply S → reads_to (more + n) ≡ stopped place reply S
+  unfolding read_first read_at
+  stays-stopped zero n place reply S e = let here : 0 + n ≡ n = omega arith in rw here e
+  stays-stopped (suc more) n place reply S e =
+      let next : suc more + n ≡ suc (more + n) = omega arith in
+      rw (next, stays-stopped more n place reply S e)
 
-pub goes_on : (R : Reading) (n r : ℕ) (l array : List ℕ) → r ≡ 0 → Counted n R → Reached R r l array → Good l × (R ≡ going (take n array) (state_in l))
-goes_on (going words S) n r l array z count t =
-    let same : take n array ≡ words = rw (← count) t.kept in
-    (t.good, rw (same, t.state))
-goes_on (stopped place reply S) n r l array z count t = absurd (refusal-number place reply t.refusal (sym t.answer ∙ z))
+  module _ (place : ℕ) (l words : List ℕ) (here : AtPlace place l words) (l' : List ℕ) where
+    abbrev o : Outcome
+    o = step controller (state_in l) (read_of slot (get_or set place 0))
 
-pub still-stopped : (M : Model) (slot : ℕ) (set : List ℕ) (place : ℕ) (R : Reading) (r : ℕ) (l array : List ℕ) → (r ≡ 0 → ⊥)
-    → Reached R r l array → Reached (read_at M slot set place R) r l array
-unfolding read_at
-still-stopped M slot set place (going words S) r l array other t = absurd (other t.nothing)
-still-stopped M slot set place (stopped at reply S) r l array other t = t
+    module _ (inside : place < length set) where
+      -- the cell at the place was read
+      pub read_goes : (word : ℕ) → WasRead (state_in l) slot set place (Ok word) l' → AtPlace (place + 1) l' (replaced words place word)
+      unfolding read_first read_at
+      read_goes word was = by o (read_is controller (state_in l) slot (get_or set place 0)) refl was.answer
+        where
+          by : (p : Outcome) → IsRead p → o ≡ p → ◌≡◌ {A = Result ℕ Unlevelled} (Ok word) (word_read place (reply_of p)) → AtPlace (place + 1) l' (replaced words place word)
+          by (accepted (Value v) T) is same e =
+              let read : word ≡ word_of v = cc in
+              let state : state_in l' ≡ T = was.state ∙ ap (after (state_in l)) same in
+              let size = here.size in
+              let room : place < length words = omega arith in
+              record {
+                size = length-set words place word ∙ here.size;
+                good = was.good;
+                reads = rw (add-one place, here.reads, same, state, take-suc-set words place word room, read);
+              }
+          by (accepted Done T) is same e = absurd is
+          by (accepted (Verdict b) T) is same e = absurd is
+          by (accepted Aborted T) is same e = absurd is
+          by (refused r) is same e = cc
 
--- the two reads of a group, from an array that begins with the words so far
-module _ (slot : ℕ) (set : List ℕ) (truth erases : ℕ) (next : erases ≡ truth + 1) (words : List ℕ) (S : State) (enough : truth ≤ length words) where
-  abbrev first : Reading
-  first = read_at controller slot set truth (going (take truth words) S)
+      -- the core refused
+      pub read-stops : (e : Unlevelled) → WasRead (state_in l) slot set place (Err e) l' → (array : List ℕ) → Reached (reads_to (length set)) (Err e) l' array
+      unfolding read_first read_at
+      read-stops e was array = by o refl was.answer
+        where
+          by : (p : Outcome) → o ≡ p → ◌≡◌ {A = Result ℕ Unlevelled} (Err e) (word_read place (reply_of p)) → Reached (reads_to (length set)) (Err e) l' array
+          by (accepted a T) same q = cc
+          by (refused r) same q =
+              let told : e ≡ Core place r = cc in
+              let state : state_in l' ≡ state_in l = was.state ∙ ap (after (state_in l)) same in
+              let now : reads_to (suc place) ≡ stopped place (Err r) (state_in l) = rw (here.reads, same, some_code r) in
+              let far : length set - suc place + suc place ≡ length set = omega arith in
+              let all : reads_to (length set) ≡ stopped place (Err r) (state_in l) =
+              rw (← far) (stays-stopped (length set - suc place) (suc place) place (Err r) (state_in l) now) in
+              rw all (record { refusal = r; reply_is = refl; answer = ap Err told; bytes = good-kept l' was.good ∙ ap (pack controller) state })
 
-  pub truth-refused : (r : ℕ) (l array : List ℕ) → Reached first r l array → (r ≡ 0 → ⊥) → Reached (read_at controller slot set erases first) r l array
-  truth-refused r l array t other = still-stopped controller slot set erases first r l array other t
-
-  pub truth-read : (r : ℕ) (l array : List ℕ) → Reached first r l array → r ≡ 0 → Good l × (first ≡ going (take erases array) (state_in l))
-  truth-read r l array t z =
-      let count = counted-read controller slot set truth truth (going (take truth words) S) (length-take-le truth words enough) in
-      let more : erases ≡ suc truth = omega arith in
-      rw more (goes_on first (suc truth) r l array z count t)
-
-  pub both_read : (r r' : ℕ) (l array l' array' : List ℕ) → Reached first r l array → r ≡ 0
-      → Reached (read_at controller slot set erases (going (take erases array) (state_in l))) r' l' array'
-      → Reached (read_at controller slot set erases first) r' l' array'
-  both_read r r' l array l' array' t z u = rw (truth-read r l array t z).1 u
+  pub all_read : (place : ℕ) (l words : List ℕ) → AtPlace place l words → length set ≤ place → place ≤ length set → Reached (reads_to (length set)) (Ok tt) l words
+  all_read place l words here many few =
+      let size = here.size in
+      let same : length set ≡ place = omega arith in
+      rw (same, here.reads) (record { nothing = refl; good = here.good; state = refl; kept = sym (take_all place words (omega arith)) })

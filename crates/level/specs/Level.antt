@@ -1,9 +1,7 @@
 -- "One operation .. reads all of them (group by group, truth cell first), picks the usable group with the fewest erases, lowest number on a tie, writes its count plus one and
 -- answers its number." Of the core it knows the step alone.
-use Rattle.std.specs.Prelude.{cond, List, [], ◌∷◌, ◌++◌, ℕ, zero, suc, ◌+◌, ◌*◌, ◌^◌, eqb, get_or}
-use Rattle.std.proofs.Math.Option.{Option, none, some}
-use Rattle.call.specs.declared.Reply.{Reply}
-use Rattle.call.specs.Answer.{reply_code, reply_kind, reply_word}
+use Rattle.std.specs.Prelude.{cond, List, [], ◌∷◌, ◌++◌, Option, None, Some, ℕ, zero, suc, ◌+◌, ◌*◌, ◌^◌, eqb, get_or}
+use Rattle.call.specs.Answer.{Reply, reply_code, reply_kind, reply_word}
 use Rattle.rules.specs.Model.{Model}
 use Rattle.rules.specs.State.{State}
 use Rattle.rules.specs.Outcome.{reply_of, after}
@@ -52,8 +50,8 @@ refusing place code S = record { place = place; code = code; kind = 0; word = 0;
 
 -- The picked group's count plus one is written, and its number answered. The core does not refuse this write (`written` of `Left`, crate `levelling`). 34: none left
 abbrev pub writing : Model → State → ℕ → List ℕ → List ℕ → Option ℕ → Levelled
-writing M S slot set words none = refusing 0 34 S
-writing M S slot set words (some g) =
+writing M S slot set words None = refusing 0 34 S
+writing M S slot set words (Some g) =
     record {
       place = 0;
       code = 0;
@@ -64,8 +62,8 @@ writing M S slot set words (some g) =
 
 -- 33: a count is negative, usable or not
 abbrev pub judging : Model → State → ℕ → List ℕ → List ℕ → Option ℕ → Levelled
-judging M S slot set words (some place) = refusing place 33 S
-judging M S slot set words none = writing M S slot set words (picked words (group_count set))
+judging M S slot set words (Some place) = refusing place 33 S
+judging M S slot set words None = writing M S slot set words (picked words (group_count set))
 
 abbrev pub judged : Model → State → ℕ → List ℕ → List ℕ → Levelled
 judged M S slot set words = judging M S slot set words (negative_at words (group_count set))

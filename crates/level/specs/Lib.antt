@@ -1,2 +1,3 @@
 pub mod Level
+pub mod Answer
 pub mod Reached

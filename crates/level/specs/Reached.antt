@@ -1,39 +1,47 @@
 -- What the functions between the check and the answer promise: how far the reads have come, in an area and an array of words, and what the operation comes to.
-use Rattle.std.specs.Prelude.{List, ◌≡◌, ℕ, ◌+◌, ◌*◌, ◌^◌, ◌≤◌, length, take}
-use Rattle.call.specs.declared.Reply.{Reply}
-use Rattle.call.specs.Answer.{reply_code, reply_number}
+use Rattle.std.specs.Prelude.{List, ◌≡◌, ℕ, length, get_or, Result, Ok, Err}
+use Rattle.call.specs.declared.Refusal.{Refusal}
+use Rattle.call.specs.Answer.{Reply, answer_word}
 use Rattle.rules.specs.Model.{controller}
 use Rattle.rules.specs.State.{State}
+use Rattle.rules.specs.Outcome.{reply_of, after}
+use Rattle.rules.specs.Step.{step}
 use Rattle.rules.specs.Layout.{pack}
 use Rattle.area.specs.Good.{Good, state_in}
-use Rattle.pick.specs.Groups.{truth_place, erases_place}
-use Rattle.level.specs.Level.{Reading, going, stopped, read_at, read_first, Levelled, levelled_number}
+use Rattle.level.specs.declared.Unlevelled.{Unlevelled}
+use Rattle.level.specs.declared.Unlevelled.TheVariants.{Core}
+use Rattle.level.specs.Level.{read_of, Reading, going, stopped, read_first, Levelled, levelled_number}
 
--- the n cells read so far: their words begin an array, and the area has their state
-abbrev pub so_far : ℕ → List ℕ → List ℕ → Reading
-so_far n array l = going (take n array) (state_in l)
+-- the word of a cell that was read, or the core's refusal with its place
+abbrev pub word_read : ℕ → Reply → Result ℕ Unlevelled
+word_read place (Ok answer) = Ok (answer_word answer)
+word_read place (Err refusal) = Err (Core place refusal)
 
--- the two cells of a group are read, the truth cell first; all cells of the set are
-abbrev pub read_group : ℕ → List ℕ → ℕ → Reading → Reading
-read_group slot set g R = read_at controller slot set (erases_place g) (read_at controller slot set (truth_place g) R)
+-- the cell at a place of the set is read: what the core replies, and the area has its state
+pub record WasRead (S : State) (slot : ℕ) (set : List ℕ) (place : ℕ) (r : Result ℕ Unlevelled) (l : List ℕ) : Type 0 where
+  pub answer : r ≡ word_read place (reply_of (step controller S (read_of slot (get_or set place 0))))
+  pub good : Good l
+  pub state : state_in l ≡ after S (step controller S (read_of slot (get_or set place 0)))
 
+-- all cells of the set are read
 abbrev pub read_all : List ℕ → ℕ → List ℕ → Reading
 read_all l slot set = read_first controller (state_in l) slot set (length set)
 
--- the reads go on, and 0 says so: the area has their state, and the array begins with their words
-pub record Going (words : List ℕ) (S : State) (r : ℕ) (l array : List ℕ) : Type 0 where
-  pub nothing : r ≡ 0
+-- the reads go on: the area has their state, and the array is their words
+pub record Going (words : List ℕ) (S : State) (r : Result (Unit {0}) Unlevelled) (l array : List ℕ) : Type 0 where
+  pub nothing : r ≡ Ok tt
   pub good : Good l
   pub state : state_in l ≡ S
-  pub kept : take (length words) array ≡ words
+  pub kept : array ≡ words
 
--- a read was refused: the core's answer with its place, which is not 0
-pub record Stopped (place : ℕ) (reply : Reply) (S : State) (r : ℕ) (l : List ℕ) : Type 0 where
-  pub answer : r ≡ place * 2 ^ 48 + reply_number reply
-  pub refusal : 1 ≤ reply_code reply
+-- a read was refused: the core's refusal with its place
+pub record Stopped (place : ℕ) (reply : Reply) (S : State) (r : Result (Unit {0}) Unlevelled) (l : List ℕ) : Type 0 where
+  pub refusal : Refusal
+  pub reply_is : reply ≡ Err refusal
+  pub answer : r ≡ Err (Core place refusal)
   pub bytes : l ≡ pack controller S
 
-abbrev pub Reached : Reading → ℕ → List ℕ → List ℕ → Type 0
+abbrev pub Reached : Reading → Result (Unit {0}) Unlevelled → List ℕ → List ℕ → Type 0
 Reached (going words S) r l array = Going words S r l array
 Reached (stopped place reply S) r l array = Stopped place reply S r l
 

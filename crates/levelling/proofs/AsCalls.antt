@@ -1,7 +1,7 @@
 -- What the operation does is what a list of core calls does. A read that is refused leaves the state, so it may stand in the list.
 use mathlib.Core.Bool.{Bool, false, cond}
 use mathlib.Core.List.{List, [], ◌∷◌, ◌++◌, map, map-append}
-use mathlib.Core.Option.{Option, none, some}
+use Rattle.std.specs.Prelude.{Option, None, Some}
 use mathlib.Core.Path.{◌≡◌, refl, sym, ◌∙◌, ap}
 use Prim.Native.Nat.{ℕ, zero, suc, ◌<◌, ◌≤◌}
 use native.Mathlib.Omega.{arith}
@@ -75,14 +75,14 @@ module _ (M : Model) (S : State) (slot : ℕ) (set : List ℕ) where
   module _ (words : List ℕ) (T : State) where
     write-end : (o : Option ℕ) → (writing M T slot set words o).state ≡ end_state M T (write_picked slot set words o)
     unfolding end_state
-    write-end none = refl
-    write-end (some g) = refl
+    write-end None = refl
+    write-end (Some g) = refl
 
     -- .. and no count is negative
     judge-end : (o : Option ℕ) → (judging M T slot set words o).state ≡ end_state M T (write_if_sound slot set words o)
     unfolding end_state
-    judge-end none = write-end (picked words (group_count set))
-    judge-end (some place) = refl
+    judge-end None = write-end (picked words (group_count set))
+    judge-end (Some place) = refl
 
   -- the operation once begun leaves what its calls leave
   calls-end : (r : Reading) → Reached (length set) r → (levelling M slot set r).state ≡ end_state M S (calls_made slot set r)

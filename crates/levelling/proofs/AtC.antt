@@ -2,7 +2,7 @@
 use mathlib.Core.Bool.{Bool, true, false}
 use mathlib.Core.List.{List}
 use mathlib.Core.Logic.{◌⊎◌, inl, inr}
-use mathlib.Core.Option.{Option, none, some}
+use Rattle.std.specs.Prelude.{Option, None, Some}
 use mathlib.Core.Path.{◌≡◌, refl, sym, ◌∙◌, ap, subst}
 use Prim.Native.Nat.{ℕ, pred, ◌/◌, ◌%◌, ◌^◌, ◌<◌, ◌≤◌}
 use native.Mathlib.Omega.{arith}
@@ -10,7 +10,7 @@ use lib.Dec.{lit<}
 use lib.ListN.{length, get_or}
 use Rattle.wire.specs.Field.{Bytes}
 use Rattle.wire.proofs.Unique.{unique}
-use Rattle.call.specs.declared.Reply.{Reply}
+use Rattle.call.specs.Answer.{Reply}
 use Rattle.rules.specs.Model.{Model, FitsBytes, controller}
 use Rattle.rules.specs.State.{State}
 use Rattle.rules.specs.StateRight.{state_right}
@@ -68,8 +68,8 @@ module _ (M : Model) (model-fits : FitsBytes M) (S : State) (set : List ℕ) (sl
   module _ (adm : admitted M S set slot ≡ true) where
     -- 34, or a group's number, which is below 8
     write-fits : (words : List ℕ) (T : State) (o : Option ℕ) → picked words (group_count set) ≡ o → Fits S (writing M T slot set words o)
-    write-fits words T none e = refusing-fits 0 34 T (lit< tt) (lit< tt) (λ c. let low = (early 34 c).1 in absurd (omega arith))
-    write-fits words T (some g) e =
+    write-fits words T None e = refusing-fits 0 34 T (lit< tt) (lit< tt) (λ c. let low = (early 34 c).1 in absurd (omega arith))
+    write-fits words T (Some g) e =
         let few = (picks-right.pick words (group_count set) g e).inside in
         let short = (is-begun M S set slot right adm).short in
         record {
@@ -82,8 +82,8 @@ module _ (M : Model) (model-fits : FitsBytes M) (S : State) (set : List ℕ) (sl
 
     -- 33, or one of those
     judge-fits : (words : List ℕ) (T : State) (o : Option ℕ) → Fits S (judging M T slot set words o)
-    judge-fits words T none = write-fits words T (picked words (group_count set)) refl
-    judge-fits words T (some place) = refusing-fits place 33 T (lit< tt) (lit< tt) (λ c. let low = (early 33 c).1 in absurd (omega arith))
+    judge-fits words T None = write-fits words T (picked words (group_count set)) refl
+    judge-fits words T (Some place) = refusing-fits place 33 T (lit< tt) (lit< tt) (λ c. let low = (early 33 c).1 in absurd (omega arith))
 
     -- a core code: 14 with a slot's number, which is a byte, or 10 with nothing beside it
     stopped-fits : (place : ℕ) (reply : Reply) (T : State) → Conflict S slot (get_or set place 0) reply → Fits S (levelling M slot set (stopped place reply T))

@@ -2,7 +2,7 @@
 use mathlib.Core.Bool.{Bool, true, false, cond}
 use mathlib.Core.List.{List, [], ◌∷◌, ◌++◌}
 use mathlib.Core.Logic.{◌⊎◌, inl, inr, ⊎_elim}
-use mathlib.Core.Option.{Option, none, some}
+use Rattle.std.specs.Prelude.{Option, None, Some, Err}
 use mathlib.Core.Path.{◌≡◌, refl, sym, ◌∙◌, ap, subst}
 use Prim.Native.Nat.{ℕ, zero, suc, pred, ◌^◌, ◌<◌, ◌≤◌}
 use native.Mathlib.Omega.{arith}
@@ -13,9 +13,8 @@ use lib.ListN.{length, get_or, take}
 use lib.Seq.{take-length}
 use Rattle.value.specs.Legal.{legal_word}
 use Rattle.value.proofs.RoundTrip.{word_back}
-use Rattle.call.specs.declared.Reply.{Reply}
-use Rattle.call.specs.declared.Reply.TheVariants.{ReadHeld, ReadNewer}
-use Rattle.call.specs.Answer.{reply_code, reply_word}
+use Rattle.call.specs.Answer.{Reply, reply_code, reply_word}
+use Rattle.call.specs.declared.Refusal.TheVariants.{ReadHeld, ReadNewer}
 use Rattle.slot.specs.Logic.{◌or◌}
 use Rattle.rules.specs.Model.{Model}
 use Rattle.rules.specs.State.{State, cell_at, slot_at, start_of}
@@ -38,8 +37,8 @@ use Rattle.levelling.proofs.ReadLaws.{Begun, is-begun, count-write, slot-with, l
 -- how the core refuses to read a cell: another slot holds it, and it says which; or it is newer
 abbrev pub Conflict : State → ℕ → ℕ → Reply → Type 0
 Conflict S slot c reply =
-    ((held S slot c ≡ true) × (reply ≡ ReadHeld (cell_at S c).holder))
-    ⊎ ((held S slot c ≡ false) × (is_newer S slot c ≡ true) × (reply ≡ ReadNewer))
+    ((held S slot c ≡ true) × (reply ≡ Err (ReadHeld (cell_at S c).holder)))
+    ⊎ ((held S slot c ≡ false) × (is_newer S slot c ≡ true) × (reply ≡ Err ReadNewer))
 
 -- no code that comes once all cells are read is one of the core's
 no-core : (code : ℕ) → (code ≡ 0) ⊎ (code ≡ 33) ⊎ (code ≡ 34) → (code ≡ 14) ⊎ (code ≡ 10) → ⊥
@@ -102,8 +101,8 @@ module _ (M : Model) (S : State) (set : List ℕ) (slot : ℕ) (b : Begun M S se
   so_far (suc n) h = next n h (read_first M S slot set n) (so_far n (omega arith))
 
   -- the picked group's write is accepted: its cell is of kind 2, and its count plus one has 32 bits
-  write-accepted : (g : ℕ) → picked (words_of S set) (group_count set) ≡ some g
-      → (writing M (with_logs S slot set []) slot set (words_of S set) (some g)).state ≡ with_logs S slot set (raised_entry S set g ∷ [])
+  write-accepted : (g : ℕ) → picked (words_of S set) (group_count set) ≡ Some g
+      → (writing M (with_logs S slot set []) slot set (words_of S set) (Some g)).state ≡ with_logs S slot set (raised_entry S set g ∷ [])
   unfolding legal_word
   write-accepted g p =
       let least = picks-right.pick (words_of S set) (group_count set) g p in
@@ -130,16 +129,16 @@ module _ (M : Model) (S : State) (set : List ℕ) (slot : ℕ) (b : Begun M S se
       }
 
   -- by what is picked: 34, or the write
-  write-ended : (o : Option ℕ) → negative_at (words_of S set) (group_count set) ≡ none → picked (words_of S set) (group_count set) ≡ o
+  write-ended : (o : Option ℕ) → negative_at (words_of S set) (group_count set) ≡ None → picked (words_of S set) (group_count set) ≡ o
       → Left M S set slot (writing M (with_logs S slot set []) slot set (words_of S set) o)
-  write-ended none sound p = past-reads _ (inr (inr refl)) (λ e. refl) (λ e. absurd (omega arith))
-  write-ended (some g) sound p = past-reads _ (inl refl) (λ e. absurd (omega arith)) (λ e. (p, sound, write-accepted g p))
+  write-ended None sound p = past-reads _ (inr (inr refl)) (λ e. refl) (λ e. absurd (omega arith))
+  write-ended (Some g) sound p = past-reads _ (inl refl) (λ e. absurd (omega arith)) (λ e. (p, sound, write-accepted g p))
 
   -- by the signs: 33, or what is picked
   judge-ended : (o : Option ℕ) → negative_at (words_of S set) (group_count set) ≡ o
       → Left M S set slot (judging M (with_logs S slot set []) slot set (words_of S set) o)
-  judge-ended none sound = write-ended (picked (words_of S set) (group_count set)) sound refl
-  judge-ended (some place) e = past-reads _ (inr (inl refl)) (λ d. refl) (λ d. absurd (omega arith))
+  judge-ended None sound = write-ended (picked (words_of S set) (group_count set)) sound refl
+  judge-ended (Some place) e = past-reads _ (inr (inl refl)) (λ d. refl) (λ d. absurd (omega arith))
 
   -- by why a read was refused: 14 with the slot in the way, or 10
   refused-ended : (place : ℕ) (reply : Reply) (T : State) → SoFar S set slot (length set) (stopped place reply T) → Conflict S slot (get_or set place 0) reply

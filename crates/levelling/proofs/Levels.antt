@@ -6,9 +6,9 @@ use Prim.Native.Nat.{ℕ, pred}
 use lib.ListN.{length, get_or, take, set as replaced}
 use lib.Seq.{take-length}
 use Rattle.call.specs.declared.Step.{Step}
-use Rattle.call.specs.declared.Reply.{Reply}
+use Rattle.call.specs.declared.Answer.{Answer}
 use Rattle.call.specs.Decode.{step_number}
-use Rattle.call.proofs.Number.{number-back}
+use Rattle.call.proofs.Numbers.{number-back}
 use Rattle.slot.specs.declared.ReadEntry.{ReadEntry}
 use Rattle.slot.specs.declared.WriteEntry.{WriteEntry}
 use Rattle.slot.specs.Logic.{◌and◌, ◌or◌, All}
@@ -78,7 +78,7 @@ module _ (M : Model) (set : List ℕ) (g : ℕ) (S : State) where
   turned i y new = set-each Stays S.slots i y idle new (λ j l. l)
 
   -- a move of one of those steps leaves every slot's logs
-  move-stays : (i : ℕ) {s : Step} {r : Reply} {T : State} → Move M S i s r T → leaves_logs (step_number s) ≡ true → (j : ℕ) → Stays j (slot_at T j)
+  move-stays : (i : ℕ) {s : Step} {r : Answer} {T : State} → Move M S i s r T → leaves_logs (step_number s) ≡ true → (j : ℕ) → Stays j (slot_at T j)
   unfolding leaves_logs ◌and◌ ◌or◌
   move-stays i (began x) p = absurd (false≢true p)
   move-stays i (read-written x h w) p = absurd (false≢true p)

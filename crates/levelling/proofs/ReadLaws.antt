@@ -12,7 +12,8 @@ use borrow.Author.Tests.{eqb-true, eqb-false, ltb-true, leb-true, not-true, lt-l
 use Rattle.value.specs.Legal.{legal_word}
 use Rattle.value.specs.Value.{parsed}
 use Rattle.value.proofs.RoundTrip.{kind-back, word_back}
-use Rattle.call.specs.declared.Reply.TheVariants.{Done, ReadHeld, ReadNewer}
+use Rattle.call.specs.declared.Answer.TheVariants.{Done}
+use Rattle.call.specs.declared.Refusal.TheVariants.{ReadHeld, ReadNewer}
 use Rattle.call.specs.Decode.{decoded}
 use Rattle.slot.specs.declared.ReadEntry.{ReadEntry}
 use Rattle.slot.specs.declared.WriteEntry.{WriteEntry}

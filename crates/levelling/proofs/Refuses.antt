@@ -2,7 +2,7 @@
 -- it gives 33, and only then.
 use mathlib.Core.Bool.{true, false≢true}
 use mathlib.Core.List.{List}
-use mathlib.Core.Option.{Option, none, some}
+use Rattle.std.specs.Prelude.{Option, None, Some}
 use mathlib.Core.Path.{◌≡◌, refl, ◌∙◌, ap, subst, sym}
 use Prim.Native.Nat.{ℕ, ◌<◌}
 use native.Mathlib.Omega.{arith}
@@ -35,8 +35,8 @@ module _ (M : Model) (S : State) (set : List ℕ) (slot : ℕ) (words : List ℕ
 
   -- none: 34; a group: 0, and it is the least worn
   by-pick : (o : Option ℕ) → picked words (group_count set) ≡ o → Answers (writing M T slot set words o)
-  by-pick none e = (λ refused. picks-right.none_left words (group_count set) e, λ other. absurd (other refl))
-  by-pick (some g) e = (λ refused. absurd (omega arith), λ other. (refl, picks-right.pick words (group_count set) g e))
+  by-pick None e = (λ refused. picks-right.none_left words (group_count set) e, λ other. absurd (other refl))
+  by-pick (Some g) e = (λ refused. absurd (omega arith), λ other. (refl, picks-right.pick words (group_count set) g e))
 
   -- so of the operation
   answers : SoundRead M S set slot words T → Answers (wear M S set slot)
@@ -61,15 +61,15 @@ module _ (M : Model) (S : State) (set : List ℕ) (slot : ℕ) (words : List ℕ
 
   -- no pick is answered with 33
   not-33 : (o : Option ℕ) → (writing M T slot set words o).code ≡ 33 → ⊥
-  not-33 none e = omega arith
-  not-33 (some g) e = omega arith
+  not-33 None e = omega arith
+  not-33 (Some g) e = omega arith
 
   by_sign : (o : Option ℕ) → negative_at words (group_count set) ≡ o → Signs (judging M T slot set words o)
-  by_sign none e = (
+  by_sign None e = (
     λ g h below. absurd (false≢true (sym (picks-right.sound words (group_count set) e g h) ∙ below)),
     λ refused. absurd (not-33 (picked words (group_count set)) refused),
   )
-  by_sign (some place) e =
+  by_sign (Some place) e =
       let found = picks-right.first words (group_count set) place e in
       (λ g h below. refl, λ refused. found)
 

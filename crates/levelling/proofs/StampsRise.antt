@@ -4,7 +4,7 @@ use Prim.Native.Nat.{ℕ, pred, ◌<◌, ◌≤◌}
 use native.Mathlib.Omega.{arith}
 use lib.ListN.{length}
 use Rattle.call.specs.declared.Step.{Step}
-use Rattle.call.specs.declared.Reply.{Reply}
+use Rattle.call.specs.declared.Answer.{Answer}
 use Rattle.slot.specs.declared.WriteEntry.{WriteEntry}
 use Rattle.rules.specs.declared.Cell.{Cell}
 use Rattle.rules.specs.Model.{Model}
@@ -29,7 +29,7 @@ Risen S T = (c : ℕ) → (cell_at S c).stamp ≤ (cell_at T c).stamp
 
 module _ (begun : ℕ → ℕ) (M : Model) (logs : ℕ → List WriteEntry) (S : State) (inv : Inv begun M logs S) (i : ℕ) (inside : i < length S.slots) where
   -- in a move
-  move-rises : {s : Step} {r : Reply} {T : State} → Move M S i s r T → Risen S T
+  move-rises : {s : Step} {r : Answer} {T : State} → Move M S i s r T → Risen S T
   move-rises (began x) = λ c. omega arith
   move-rises (read-written x h w) = λ c. omega arith
   move-rises (read_again x h w r) = λ c. omega arith

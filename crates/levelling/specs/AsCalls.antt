@@ -1,6 +1,5 @@
 -- What the operation does is what a list of core calls does: the reads in order, then the write.
-use Rattle.std.specs.Prelude.{Bool, cond, List, [], ◌∷◌, ◌++◌, map, ◌≡◌, ℕ, suc, pred, leb, length, get_or, take}
-use Rattle.std.proofs.Math.Option.{Option, none, some}
+use Rattle.std.specs.Prelude.{Bool, cond, List, [], ◌∷◌, ◌++◌, map, ◌≡◌, ℕ, suc, pred, leb, length, get_or, take, Option, None, Some}
 use Rattle.wire.specs.Field.{Bytes}
 use Rattle.slot.specs.Logic.{◌and◌}
 use Rattle.rules.specs.Model.{Model}
@@ -19,12 +18,12 @@ use Rattle.wear.specs.OnBytes.{wear_on_bytes}
 
 -- the write, if a group is picked; none, if a count is negative
 abbrev pub write_picked : ℕ → List ℕ → List ℕ → Option ℕ → List Call
-write_picked slot set words none = []
-write_picked slot set words (some g) = write_of slot (get_or set (erases_place g) 0) (suc (erases words g)) ∷ []
+write_picked slot set words None = []
+write_picked slot set words (Some g) = write_of slot (get_or set (erases_place g) 0) (suc (erases words g)) ∷ []
 
 abbrev pub write_if_sound : ℕ → List ℕ → List ℕ → Option ℕ → List Call
-write_if_sound slot set words (some place) = []
-write_if_sound slot set words none = write_picked slot set words (picked words (group_count set))
+write_if_sound slot set words (Some place) = []
+write_if_sound slot set words None = write_picked slot set words (picked words (group_count set))
 
 -- the reads up to the one that was refused, or all of them and the write
 abbrev pub calls_made : ℕ → List ℕ → Reading → List Call

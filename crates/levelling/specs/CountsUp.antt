@@ -1,6 +1,5 @@
 -- Why a count can't fall. In document 01's words a commit has a stamp, a read log and a write log; the replay is what the cells hold once all commits up to a stamp are in.
-use Rattle.std.specs.Prelude.{true, false, cond, List, [], ◌∷◌, ◌++◌, map, ◌⊎◌, ◌≡◌, ℕ, zero, suc, pred, ◌+◌, ◌<◌, ◌≤◌, ℤ, ◌≤ℤ◌, length, get_or, take}
-use Rattle.std.proofs.Math.Option.{none, some}
+use Rattle.std.specs.Prelude.{true, false, cond, List, [], ◌∷◌, ◌++◌, map, ◌⊎◌, ◌≡◌, ℕ, zero, suc, pred, ◌+◌, ◌<◌, ◌≤◌, ℤ, ◌≤ℤ◌, length, get_or, take, None, Some}
 use Rattle.std.proofs.Math.IntN.{suc_ℤ}
 use Rattle.std.specs.Int.{w32}
 use Rattle.std.proofs.Common.{to_z}
@@ -37,8 +36,8 @@ cells_read reads = map (λ (e : ReadEntry). e.cell) reads
 -- Nothing else is asked: who made the logs, and how, is left open. So the operation levels, and so does a reload with the right update.
 pub record LevelsWith (set : List ℕ) (g : ℕ) (reads : List ReadEntry) (writes : List WriteEntry) : Type 0 where
   pub cells : take (length set) (cells_read reads) ≡ set
-  pub sound : negative_at (words_read reads) (group_count set) ≡ none
-  pub pick : picked (words_read reads) (group_count set) ≡ some g
+  pub sound : negative_at (words_read reads) (group_count set) ≡ None
+  pub pick : picked (words_read reads) (group_count set) ≡ Some g
   pub write : writes ≡ (record { cell = get_or set (erases_place g) 0; word = suc (erases (words_read reads) g) } ∷ [])
 
 -- a commit levels, for some set and some group
@@ -63,8 +62,8 @@ words_before S events stamp set = map (replay S events (pred stamp)) set
 -- group g of a set is the right one at a stamp: just before it no count of the set is negative and g is what the pick rule gives, so it is usable and none that
 -- is usable has fewer erases
 pub record RightPick (S : State) (events : List Event) (stamp : ℕ) (set : List ℕ) (g : ℕ) : Type 0 where
-  pub sound : negative_at (words_before S events stamp set) (group_count set) ≡ none
-  pub pick : picked (words_before S events stamp set) (group_count set) ≡ some g
+  pub sound : negative_at (words_before S events stamp set) (group_count set) ≡ None
+  pub pick : picked (words_before S events stamp set) (group_count set) ≡ Some g
   pub least : LeastWorn (words_before S events stamp set) (group_count set) g
 
 -- a commit ignored no mark, or none on a cell of the set, whose entries come first in its read log

@@ -1,6 +1,5 @@
 -- What the reads give, and what the operation leaves in the transaction's logs.
-use Rattle.std.specs.Prelude.{Bool, true, false, List, [], ◌∷◌, map, ◌⊎◌, ◌≡◌, ℕ, suc, pred, ◌<◌, ◌≤◌, length, get_or, take}
-use Rattle.std.proofs.Math.Option.{none, some}
+use Rattle.std.specs.Prelude.{Bool, true, false, List, [], ◌∷◌, map, ◌⊎◌, ◌≡◌, ℕ, suc, pred, ◌<◌, ◌≤◌, length, get_or, take, None, Some}
 use Rattle.slot.specs.declared.ReadEntry.{ReadEntry}
 use Rattle.slot.specs.declared.WriteEntry.{WriteEntry}
 use Rattle.slot.specs.Logic.{◌or◌}
@@ -45,8 +44,8 @@ raised_entry S set g = record { cell = get_or set (erases_place g) 0; word = suc
 -- the pick rule gives the group that is answered, no count is negative, and the group's entry alone is written
 abbrev pub PickWritten : State → List ℕ → ℕ → Levelled → Type 0
 PickWritten S set slot w =
-    (picked (words_of S set) (group_count set) ≡ some w.word)
-    × (negative_at (words_of S set) (group_count set) ≡ none)
+    (picked (words_of S set) (group_count set) ≡ Some w.word)
+    × (negative_at (words_of S set) (group_count set) ≡ None)
     × (w.state ≡ with_logs S slot set (raised_entry S set w.word ∷ []))
 
 -- What an operation w that has begun comes to.

@@ -12,42 +12,42 @@ use lib.ListN.{length, take, length-append}
 use Rattle.wire.specs.Part.{splice}
 use Rattle.wire.specs.Table.{cat}
 use Rattle.wire.proofs.Laws.Part.{splice-nil, splice-next, take-splice-part, length-splice}
-use Rattle.line.specs.declared.Put.{Put}
-use Rattle.line.specs.declared.Put.TheVariants.{End, Short}
+use Rattle.std.specs.Prelude.{Option, Some, None, unwrap_or}
 use Rattle.line.specs.declared.Style.{Style}
+use Rattle.line.specs.declared.Out.{Out}
 use Rattle.line.specs.Number.{base_of, least_of, numeral}
 use Rattle.line.proofs.Number.{digits-most}
-use Rattle.line.specs.Gather.{put_answer, put_bytes, Puts, end_of, Gathered, gathered, added, added_all, added_parts, Leaves}
+use Rattle.line.specs.Gather.{put_answer, put_bytes, Puts, Gathered, gathered, added, added_all, added_parts, Leaves, written, Writes}
 
 -- the two ways of putting a part
 module _ (s : List ℕ) (at : ℕ) (part : List ℕ) where
-  pub no_room : length s < at + length part → Puts s at part Short s
+  pub no_room : length s < at + length part → Puts s at part None s
   unfolding put_answer put_bytes
   no_room h = let test = lt-leb (at + length part) (length s) h in record { answer = rw test; bytes = rw test }
 
-  pub room : (t : List ℕ) → at + length part ≤ length s → t ≡ splice s at part → Puts s at part (End (at + length part)) t
+  pub room : (t : List ℕ) → at + length part ≤ length s → t ≡ splice s at part → Puts s at part (Some (at + length part)) t
   unfolding put_answer put_bytes
   room t h e = let test = le-leb (at + length part) (length s) h in record { answer = rw test; bytes = rw test e }
 
 -- a part that is put, and the end that is read off its answer
-pub leaves : {s part whole t : List ℕ} {at : ℕ} {p : Put} {r : ℕ} → Puts s at part p t → part ≡ whole → r ≡ end_of p at → Leaves (added (gathered at s) whole) r t
+pub leaves : {s part whole t : List ℕ} {at : ℕ} {p : Option ℕ} {r : ℕ} → Puts s at part p t → part ≡ whole → r ≡ unwrap_or p at → Leaves (added (gathered at s) whole) r t
 leaves {s} {at = at} puts same e =
-    record { end = e ∙ ap (λ (q : Put). end_of q at) (puts.answer ∙ ap (put_answer s at) same); bytes = puts.bytes ∙ ap (put_bytes s at) same }
+    record { end = e ∙ ap (λ (q : Option ℕ). unwrap_or q at) (puts.answer ∙ ap (put_answer s at) same); bytes = puts.bytes ∙ ap (put_bytes s at) same }
 
 -- what is gathered, by its two parts
 pub gathered-as : {g : Gathered} {at : ℕ} {s : List ℕ} → Leaves g at s → gathered at s ≡ g
 gathered-as h = λ i. record { end = h.end i; bytes = h.bytes i }
 
 -- one part more after those that a loop has gathered
-pub leaves-next : (f : ℕ → List ℕ) (g : Gathered) (k : ℕ) {s t part : List ℕ} {at : ℕ} {p : Put} {r : ℕ}
-    → Leaves (added_all k f g) at s → part ≡ f k → Puts s at part p t → r ≡ end_of p at → Leaves (added_all (k + 1) f g) r t
+pub writes-next : (f : ℕ → List ℕ) (g : Gathered) (k : ℕ) {part : List ℕ} {a b c : Out}
+    → Writes a (added_all k f g) b → part ≡ f k → Writes b (added (written b) part) c → Writes a (added_all (k + 1) f g) c
 unfolding added_all
-leaves-next f g k {s} {t} {at = at} {r = r} before same puts e =
-    rw (add-one k)
-    (subst (λ (x : Gathered). Leaves (added x (f k)) r t) (gathered-as before) (leaves puts same e))
+writes-next f g k {c = c} before same put =
+    let one = subst (λ (x : Gathered). Leaves (added x (f k)) c.end c.bytes.now) (gathered-as before.leaves) (rw same at put.leaves) in
+    record { same = put.same ∙ before.same; leaves = rw (add-one k) one }
 
 -- the same part by another name
-pub puts-same : {s part whole t : List ℕ} {at : ℕ} {p : Put} → Puts s at part p t → part ≡ whole → Puts s at whole p t
+pub puts-same : {s part whole t : List ℕ} {at : ℕ} {p : Option ℕ} → Puts s at part p t → part ≡ whole → Puts s at whole p t
 puts-same {s} {at = at} puts same = record { answer = puts.answer ∙ ap (put_answer s at) same; bytes = puts.bytes ∙ ap (put_bytes s at) same }
 
 -- the parts at the front of a buffer
@@ -91,15 +91,20 @@ pub leaves-both : (parts more : List (List ℕ)) (g : Gathered) {at r : ℕ} {s 
 leaves-both parts more g {r = r} {t = t} before then =
     rw (added-both parts more g) (subst (λ (x : Gathered). Leaves (added_parts more x) r t) (gathered-as before) then)
 
+-- the same of a writer
+pub writes-both : (parts more : List (List ℕ)) (g : Gathered) {a b c : Out}
+    → Writes a (added_parts parts g) b → Writes b (added_parts more (written b)) c → Writes a (added_parts (parts ++ more) g) c
+writes-both parts more g before then = record { same = then.same ∙ before.same; leaves = leaves-both parts more g before.leaves then.leaves }
+
 -- .. of which the second puts one part
-pub leaves-one : {s part t : List ℕ} {at : ℕ} {p : Put} {r : ℕ} → Puts s at part p t → r ≡ end_of p at → Leaves (added_parts (part ∷ []) (gathered at s)) r t
+pub writes-one : (part : List ℕ) (a : Out) {b : Out} → Writes a (added (written a) part) b → Writes a (added_parts (part ∷ []) (written a)) b
 unfolding added_parts
-leaves-one puts e = leaves puts refl e
+writes-one part a put = put
 
 -- .. or nothing
-pub leaves_none : {s : List ℕ} {at : ℕ} → Leaves (added_parts [] (gathered at s)) at s
+pub writes_none : (a : Out) → Writes a (added_parts [] (written a)) a
 unfolding added_parts
-leaves_none = record { end = refl; bytes = refl }
+writes_none a = record { same = refl; leaves = record { end = refl; bytes = refl } }
 
 -- the parts of a list that fit
 pub front-parts : (s begun : List ℕ) (parts : List (List ℕ)) → length (begun ++ flatten parts) ≤ length s

@@ -1,6 +1,7 @@
 -- A number's digits: they are taken off from the last one on, as the loop writes them, and are as few as the number needs.
 use mathlib.Core.Bool.{Bool, true, false, cond, false≢true}
 use mathlib.Core.List.{List, [], ◌∷◌, ◌++◌, append_assoc, append-nil}
+use mathlib.Core.Logic.{◌⊎◌, inl, inr}
 use mathlib.Core.Path.{◌≡◌, refl, sym, ◌∙◌}
 use Prim.Native.Nat.{ℕ, zero, suc, ◌-◌, ◌/◌, ◌%◌, ◌^◌, ◌≤◌, ◌<◌}
 use native.Mathlib.Nat.{pow-zero, pow-suc, div-lt_iff_lt-mul}
@@ -22,6 +23,13 @@ base-positive Hex = omega arith
 -- whether nothing is left to write
 abbrev over : ℕ → ℕ → Bool
 over least n = cond (eqb least 0) (eqb n 0) false
+
+pub over-when : {least n : ℕ} → least ≡ 0 → n ≡ 0 → over least n ≡ true
+over-when p q = rw (p, q)
+
+pub not-over : {least n : ℕ} → ((least ≡ 0) × (n ≡ 0 → ⊥)) ⊎ (least ≡ 0 → ⊥) → over least n ≡ false
+not-over {least} {n} (inl (p, q)) = rw (p, ne_eqb n 0 q)
+not-over {least} {n} (inr p) = rw (ne_eqb least 0 p)
 
 pub digits-over : (base least most n : ℕ) → over least n ≡ true → digits base least most n ≡ []
 unfolding digits

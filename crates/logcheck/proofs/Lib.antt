@@ -1,4 +1,5 @@
 pub mod Chains
+pub mod Alls
 pub mod CellPlaces
 pub mod Words
 pub mod Tables

@@ -6,7 +6,7 @@ use mathlib.Core.Path.{◌≡◌, refl, sym, ◌∙◌, ap, ap₂}
 use Prim.Native.Nat.{ℕ, ◌+◌, ◌*◌, ◌<◌, ◌≤◌}
 use native.Mathlib.Numerals.{add-one}
 use native.Mathlib.Omega.{arith}
-use borrow.Author.Tests.{eq-eqb, eqb-true, eqb-false, le-leb, leb-true, lt-ltb, ltb-true}
+use borrow.Author.Tests.{eqb-true, eqb-false, le-leb, leb-true, lt-ltb, ltb-true}
 use lib.Dec.{eqb, ltb, leb}
 use lib.ListN.{length, get_or, take, drop, set, replicate, get_or-replicate}
 use lib.Seq.{drop-drop, get_or-set_same, get_or-set_other}
@@ -98,25 +98,27 @@ module _ (cells : List Cell) (R : ℕ → ℕ → Bool) (cell word : ℕ → ℕ
     pub entry-right : logged_right cells c (word j) ≡ true → free ≡ true → entry_test cells R cell word j ≡ true
     entry-right p q = and_intro _ _ (rw here at p) (sym next-free ∙ q)
 
--- `seen` is 0 at the cells that are apart from all that were passed
-pub seen_start : (cell : ℕ → ℕ) (x : ℕ) → x < 64 → eqb (get_or (replicate 64 0) x 0) 0 ≡ every 0 (λ k. apart (cell k) x)
-unfolding every
-seen_start cell x h = eq-eqb _ _ (get_or-replicate 64 x 0 0 h)
+-- `seen` has the cells of the entries passed
+module _ (cell : ℕ → ℕ) where
+  abbrev pub Seen : List Bool → ℕ → Type 0
+  Seen seen i = (x : ℕ) → x < 64 → not (get_or seen x false) ≡ every i (λ k. apart (cell k) x)
 
-pub seen_next : (cell : ℕ → ℕ) (seen : List ℕ) (i c : ℕ) → length seen ≡ 64 → c < 64 → c ≡ cell i
-    → ((x : ℕ) → x < 64 → eqb (get_or seen x 0) 0 ≡ every i (λ k. apart (cell k) x))
-    → (x : ℕ) → x < 64 → eqb (get_or (set seen c 1) x 0) 0 ≡ every (i + 1) (λ k. apart (cell k) x)
-unfolding every
-seen_next cell seen i c size below here before x h = rw (add-one i, ← here) (by (eqb c x) refl)
-  where
-    by : (b : Bool) → eqb c x ≡ b → eqb (get_or (set seen c 1) x 0) 0 ≡ (every i (λ k. apart (cell k) x) and apart c x)
-    by true e =
-        let same : c ≡ x = eqb-true _ _ e in
-        let now : get_or (set seen c 1) x 0 ≡ 1 = rw (← same) (get_or-set_same seen c 1 0 (omega arith)) in
-        ap (λ (k : ℕ). eqb k 0) now ∙ rw e (sym (and-false _))
-    by false e =
-        let kept : get_or (set seen c 1) x 0 ≡ get_or seen x 0 = get_or-set_other seen c x 1 0 (λ s. eqb-false _ _ e (sym s)) in
-        ap (λ (k : ℕ). eqb k 0) kept ∙ before x h ∙ rw e (sym (and-true _))
+  pub seen-none : Seen (replicate 64 false) 0
+  unfolding every
+  seen-none x h = ap not (get_or-replicate 64 x false false h)
+
+  pub seen-next : (seen : List Bool) (i c : ℕ) → length seen ≡ 64 → c < 64 → c ≡ cell i → Seen seen i → Seen (set seen c true) (i + 1)
+  unfolding every
+  seen-next seen i c size below here before x h = rw (add-one i, ← here) (by (eqb c x) refl)
+    where
+      by : (b : Bool) → eqb c x ≡ b → not (get_or (set seen c true) x false) ≡ (every i (λ k. apart (cell k) x) and apart c x)
+      by true e =
+          let same : c ≡ x = eqb-true _ _ e in
+          let now : get_or (set seen c true) x false ≡ true = rw (← same) (get_or-set_same seen c true false (omega arith)) in
+          ap not now ∙ rw e (sym (and-false _))
+      by false e =
+          let kept : get_or (set seen c true) x false ≡ get_or seen x false = get_or-set_other seen c x true false (λ s. eqb-false _ _ e (sym s)) in
+          ap not kept ∙ before x h ∙ rw e (sym (and-true _))
 
 -- `least` is at most the cells that are above all that were passed
 pub least_start : (cell : ℕ → ℕ) (x : ℕ) → leb 0 x ≡ every 0 (λ k. ltb (cell k) x)

@@ -84,13 +84,8 @@ flag-zero zero h = refl
 flag-zero (suc zero) h = refl
 flag-zero (suc (suc x)) h = absurd (omega arith)
 
--- what is known of a slot's marks once they are gathered
-pub record Known (l : List ℕ) (marks : ℕ) : Type 0 where
-  pub counted : Counted l
-  pub unused : unused_zero 8 l (slot_of 8 l) ≡ true
-  pub gathered : MarksGathered marks 16 l
-
-module _ (l : List ℕ) (marks : ℕ) (known : Known l marks) where
+-- the marks of a slot once they are gathered
+module _ {l : List ℕ} {marks : ℕ} (counted : Counted l) (unused : unused_zero 8 l (slot_of 8 l) ≡ true) (gathered : MarksGathered marks 16 l) where
   -- no entry past the count is marked
   past-unmarked : (i : ℕ) → get_or l 3 0 ≤ i → i < 16 → (read_of (drop (21 + 6 * i) l)).mark ≡ false
   unfolding unused_zero slot_of read_of
@@ -98,21 +93,21 @@ module _ (l : List ℕ) (marks : ℕ) (known : Known l marks) where
       let zero : get_or (drop (21 + 6 * i) l) 1 0 ≡ 0 =
       zeros-at 6 (drop (21 + 6 * i) l)
       (or_right _ _ (le-ltb i (get_or l 3 0) h)
-      (every-at 16 (λ j. ltb j (get_or l 3 0) or zeros 6 (drop (21 + 6 * j) l)) (and_left _ _ known.unused) i b))
+      (every-at 16 (λ j. ltb j (get_or l 3 0) or zeros 6 (drop (21 + 6 * j) l)) (and_left _ _ unused) i b))
       1 (omega arith) in
       ne_eqb (get_or (drop (21 + 6 * i) l) 1 0) 1 (λ e. omega arith)
 
   flags-fit : flags_right 8 l ≡ (leb (get_or l 1 0) 1 and leb marks 1)
   unfolding flags_right
-  flags-fit = ap (λ (b : Bool). leb (get_or l 1 0) 1 and b) (sym known.gathered.flags)
+  flags-fit = ap (λ (b : Bool). leb (get_or l 1 0) 1 and b) (sym gathered.flags)
 
   some-set : marks ≤ 1 → some_marked (read_log (slot_of 8 l)) ≡ eqb marks 1
   unfolding some_marked slot_of
   some-set h =
       let entry : ℕ → ReadEntry = λ i. read_of (drop (21 + 6 * i) l) in
-      ap some_marked (take-tab entry (get_or l 3 0) 16 known.counted.reads)
-      ∙ sym (any-cut entry (λ (e : ReadEntry). e.mark) (get_or l 3 0) 16 known.counted.reads past-unmarked)
-      ∙ sym (known.gathered.some (le-leb marks 1 h))
+      ap some_marked (take-tab entry (get_or l 3 0) 16 counted.reads)
+      ∙ sym (any-cut entry (λ (e : ReadEntry). e.mark) (get_or l 3 0) 16 counted.reads past-unmarked)
+      ∙ sym (gathered.some (le-leb marks 1 h))
 
   -- a flag or a mark above 1
   no-bit : flags_right 8 l ≡ false → false ≡ marked_right l

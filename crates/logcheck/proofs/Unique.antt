@@ -4,11 +4,8 @@ use mathlib.Core.List.{List}
 use mathlib.Core.Path.{◌≡◌}
 use Prim.Native.Nat.{ℕ}
 use Rattle.wire.proofs.Unique.{unique}
-use Rattle.logcheck.specs.Logged.{Index, legal_at, zeros_from, slot_logs_right, slot_unused_zero}
+use Rattle.logcheck.specs.Logged.{legal_at, zeros_from, slot_logs_right, slot_unused_zero}
 use Rattle.logcheck.specs.Marked.{marked_right}
-
-pub index-unique : (x r₁ r₂ : ℕ) → Index x r₁ → Index x r₂ → r₁ ≡ r₂
-index-unique x r₁ r₂ p q = unique p.0 q.0
 
 pub legal-at-unique : (kind at : ℕ) (l : List ℕ) (r₁ r₂ : Bool) → r₁ ≡ legal_at kind l at → r₂ ≡ legal_at kind l at → r₁ ≡ r₂
 legal-at-unique kind at l r₁ r₂ = unique

@@ -9,12 +9,13 @@ use native.Mathlib.Omega.{arith}
 use borrow.Author.Tests.{eq-eqb, eqb-true, lt-ltb, le-ltb}
 use lib.Bits.{bit_or, or_add_and, and_le_l, and_le_r}
 use lib.Dec.{eqb, ltb}
-use lib.ListN.{get_or, drop}
-use lib.Seq.{get_or-drop, drop-drop}
+use lib.ListN.{length, get_or, take, drop, length-drop}
+use lib.Seq.{get_or-drop, get_or-take, length-take-le, drop-drop}
 use Rattle.slot.specs.Layout.{slot_of}
 use Rattle.slot.specs.Logic.{◌and◌, ◌or◌, every}
-use Rattle.slot.proofs.Logic.{and_intro, and_left, and_right, and-true, and_assoc, false-or, true-or, both_ways, every_of}
+use Rattle.slot.proofs.Logic.{and_intro, and_left, and_right, and-true, and_assoc, false-or, true-or, both_ways, every_of, every-ext}
 use Rattle.rules.specs.AreaRight.{zeros, unused_zero}
+use Rattle.logcheck.specs.Logged.{Counted, zeros_from}
 
 -- a bitwise or is 0 exactly if both sides are
 pub or-zero : (a b : ℕ) → eqb (bit_or a b) 0 ≡ (eqb a 0 and eqb b 0)
@@ -32,10 +33,22 @@ pub zero-start : (l : List ℕ) → eqb 0 0 ≡ zeros 0 l
 unfolding zeros every
 zero-start l = refl
 
-pub zero-next : (l : List ℕ) (from i any : ℕ) → eqb any 0 ≡ zeros i (drop from l)
-    → eqb (bit_or any (get_or l (from + i) 0)) 0 ≡ zeros (i + 1) (drop from l)
+pub zero-next : (l : List ℕ) (i any : ℕ) → eqb any 0 ≡ zeros i l → eqb (bit_or any (get_or l i 0)) 0 ≡ zeros (i + 1) l
 unfolding zeros every
-zero-next l from i any p = or-zero any (get_or l (from + i) 0) ∙ rw (add-one i, p, get_or-drop)
+zero-next l i any p = or-zero any (get_or l i 0) ∙ rw (add-one i, p)
+
+-- the bytes of a part are zero
+abbrev pub zeros_of : List ℕ → ℕ → ℕ → Bool
+zeros_of l from to = zeros_from (take (to - from) (drop from l)) 0 (length (take (to - from) (drop from l)))
+
+-- a part is zero if as many bytes from its place on are
+pub zeros-part : (count from : ℕ) (l : List ℕ) → from + count ≤ length l
+    → zeros_from (take count (drop from l)) 0 (length (take count (drop from l))) ≡ zeros count (drop from l)
+unfolding zeros
+zeros-part count from l h =
+    ap (λ (k : ℕ). zeros k (take count (drop from l))) (length-take-le count (drop from l) (rw length-drop (omega arith)))
+    ∙ every-ext count (λ i. eqb (get_or (take count (drop from l)) i 0) 0) (λ i. eqb (get_or (drop from l) i 0) 0)
+    (λ i b. ap (λ (x : ℕ). eqb x 0) (get_or-take count (drop from l) i 0 b))
 
 -- a run that goes on
 pub zeros-add : (a b : ℕ) (l : List ℕ) → zeros (a + b) l ≡ (zeros a l and zeros b (drop a l))
@@ -67,9 +80,16 @@ module _ (size at count : ℕ) (l : List ℕ) where
   unused-zero n m e = rw e (sym (unused-from m))
 
 -- the unused entries of both logs
-pub unused-places : (l : List ℕ) (reads writes : ℕ) → reads ≡ get_or l 3 0 → writes ≡ get_or l 4 0 → reads ≤ 16 → writes ≤ 16
-    → (zeros (6 * (16 - reads)) (drop (21 + 6 * reads) l) and zeros (5 * (16 - writes)) (drop (117 + 5 * writes) l)) ≡ unused_zero 8 l (slot_of 8 l)
+pub unused-places : (l : List ℕ) (reads writes : ℕ) → Counted l → reads ≡ get_or l 3 0 → writes ≡ get_or l 4 0
+    → (zeros_of l (21 + 6 * reads) 117 and zeros_of l (117 + 5 * writes) 197) ≡ unused_zero 8 l (slot_of 8 l)
 unfolding unused_zero slot_of
-unused-places l reads writes d e h k =
-    rw (← d, ← e)
-    (ap₂ ◌and◌ (unused-zero 6 21 reads l 16 (16 - reads) (omega arith)) (unused-zero 5 117 writes l 16 (16 - writes) (omega arith)))
+unused-places l reads writes counted d e =
+    let r : 117 - (21 + 6 * reads) ≡ 6 * (16 - reads) = omega (arith, counted.reads) in
+    let w : 197 - (117 + 5 * writes) ≡ 5 * (16 - writes) = omega (arith, counted.writes) in
+    ap₂ ◌and◌
+    (zeros-part (117 - (21 + 6 * reads)) (21 + 6 * reads) l (omega (arith, counted.size, counted.reads))
+    ∙ ap (λ (k : ℕ). zeros k (drop (21 + 6 * reads) l)) r)
+    (zeros-part (197 - (117 + 5 * writes)) (117 + 5 * writes) l (omega (arith, counted.size, counted.writes))
+    ∙ ap (λ (k : ℕ). zeros k (drop (117 + 5 * writes) l)) w)
+    ∙ rw (← d, ← e)
+    (ap₂ ◌and◌ (unused-zero 6 21 reads l 16 (16 - reads) (omega (arith, counted.reads))) (unused-zero 5 117 writes l 16 (16 - writes) (omega (arith, counted.writes))))

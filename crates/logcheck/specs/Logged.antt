@@ -1,5 +1,5 @@
 -- What "well formed" says of a slot's logs, where its counts are right, and of the bytes in them.
-use Rattle.std.specs.Prelude.{Bool, List, ◌≡◌, ℕ, ◌≤◌, ◌<◌, length, get_or, drop}
+use Rattle.std.specs.Prelude.{Bool, List, ℕ, ◌≤◌, length, get_or, drop}
 use Rattle.wire.specs.Field.{field_at}
 use Rattle.value.specs.Legal.{legal_word}
 use Rattle.slot.specs.declared.SlotRecord.{SlotRecord}
@@ -10,10 +10,6 @@ use Rattle.rules.specs.Model.{controller}
 use Rattle.rules.specs.Layout.{cells_in}
 use Rattle.rules.specs.LogsRight.{reads_right, writes_right}
 use Rattle.rules.specs.AreaRight.{zeros, unused_zero}
-
--- a byte as an index: the same number, and below 256
-abbrev pub Index : ℕ → ℕ → Type 0
-Index x r = (r ≡ x) × (r < 256)
 
 -- the word at `at` is legal for the kind
 abbrev pub legal_at : ℕ → List ℕ → ℕ → Bool

@@ -3,11 +3,10 @@ use mathlib.Core.Bool.{Bool}
 use mathlib.Core.Path.{◌≡◌}
 use mathlib.Core.List.{List}
 use Prim.Native.Nat.{ℕ}
+use Rattle.std.specs.Prelude.{Option}
 use Rattle.wire.proofs.Unique.{unique}
 use Rattle.slot.specs.declared.ReadEntry.{ReadEntry}
 use Rattle.slot.specs.declared.WriteEntry.{WriteEntry}
-use Rattle.slot.specs.declared.ReadFound.{ReadFound}
-use Rattle.slot.specs.declared.WriteFound.{WriteFound}
 use Rattle.slot.specs.declared.SlotRecord.{SlotRecord}
 use Rattle.packed.specs.Places.{fields_at, with_writes_at, read_entry_at, write_entry_at, read_found_at, write_found_at, marked_at, slot_cleared, fields_put, read_entry_put, read_log_put, write_log_put}
 
@@ -24,10 +23,10 @@ module _ (width at : ℕ) (s : List ℕ) where
   pub write-at-unique : (k : ℕ) (r₁ r₂ : WriteEntry) → r₁ ≡ write_entry_at width at s k → r₂ ≡ write_entry_at width at s k → r₁ ≡ r₂
   write-at-unique k r₁ r₂ = unique
 
-  pub find-read-unique : (cell : ℕ) (r₁ r₂ : ReadFound) → r₁ ≡ read_found_at width at s cell → r₂ ≡ read_found_at width at s cell → r₁ ≡ r₂
+  pub find-read-unique : (cell : ℕ) (r₁ r₂ : Option ReadEntry) → r₁ ≡ read_found_at width at s cell → r₂ ≡ read_found_at width at s cell → r₁ ≡ r₂
   find-read-unique cell r₁ r₂ = unique
 
-  pub find-write-unique : (cell : ℕ) (r₁ r₂ : WriteFound) → r₁ ≡ write_found_at width at s cell → r₂ ≡ write_found_at width at s cell → r₁ ≡ r₂
+  pub find-write-unique : (cell : ℕ) (r₁ r₂ : Option WriteEntry) → r₁ ≡ write_found_at width at s cell → r₂ ≡ write_found_at width at s cell → r₁ ≡ r₂
   find-write-unique cell r₁ r₂ = unique
 
   pub some-marked-unique : (r₁ r₂ : Bool) → r₁ ≡ marked_at width at s → r₂ ≡ marked_at width at s → r₁ ≡ r₂

@@ -1,5 +1,5 @@
 -- The slot at `at` of the list l, for stamps of `width` bytes: what is read of it, and what is left of l when a part of it is put.
-use Rattle.std.specs.Prelude.{Bool, true, List, ◌≡◌, ℕ, ◌+◌, ◌*◌, ltb, drop, get_or}
+use Rattle.std.specs.Prelude.{Bool, true, Option, List, ◌≡◌, ℕ, ◌+◌, ◌*◌, ltb, drop, get_or}
 use Rattle.wire.specs.Part.{splice}
 use Rattle.slot.specs.Layout.{no_read, no_write, empty, read_size, reads_at, writes_at, read_bytes, field_bytes, read_log_bytes, write_log_bytes, slot_of, slot_bytes}
 use Rattle.slot.specs.Logic.{pairwise}
@@ -8,8 +8,6 @@ use Rattle.slot.specs.Operations.{read_found, write_found}
 use Rattle.slot.specs.Fields.{fields_of, without_reads}
 use Rattle.slot.specs.declared.ReadEntry.{ReadEntry}
 use Rattle.slot.specs.declared.WriteEntry.{WriteEntry}
-use Rattle.slot.specs.declared.ReadFound.{ReadFound}
-use Rattle.slot.specs.declared.WriteFound.{WriteFound}
 use Rattle.slot.specs.declared.SlotRecord.{SlotRecord}
 
 module _ (width at : ℕ) (l : List ℕ) where
@@ -34,10 +32,10 @@ module _ (width at : ℕ) (l : List ℕ) where
   abbrev pub write_entry_at : ℕ → WriteEntry
   write_entry_at k = get_or slot_in.writes k no_write
 
-  abbrev pub read_found_at : ℕ → ReadFound
+  abbrev pub read_found_at : ℕ → Option ReadEntry
   read_found_at cell = read_found (read_entry (read_log slot_in) cell)
 
-  abbrev pub write_found_at : ℕ → WriteFound
+  abbrev pub write_found_at : ℕ → Option WriteEntry
   write_found_at cell = write_found (write_entry (write_log slot_in) cell)
 
   abbrev pub marked_at : Bool

@@ -1,7 +1,9 @@
 // A slot's bytes in place: its record without the logs, entries of the logs where they stand, and each part of a record put where it stands.
 #![tactic(auto)]
 
-ghost use Rattle.std.specs.Prelude.{◌≡◌, ◌+◌, ◌≤◌, ◌<◌, length};
+ghost use Rattle.std.specs.Prelude.{◌≡◌, ◌+◌, ◌*◌, ◌≤◌, ◌<◌, length, get_or};
+ghost use Rattle.wire.specs.Part.{splice};
+ghost use Rattle.wire.specs.Table.{cat};
 ghost use Rattle.slot.specs.Layout.{read_capacity, write_capacity, slot_size};
 ghost use Rattle.packed.specs.Places.{
   fields_at,
@@ -19,7 +21,11 @@ ghost use Rattle.packed.specs.Places.{
   write_log_put,
 };
 
-use slot::{ReadEntry, ReadFound, SlotRecord, WriteEntry, WriteFound};
+use entries::Entry;
+use slot::{ReadEntry, SlotRecord, WriteEntry};
+
+// A slot's place is `s`, `at` and `width`, with one fact about them in each contract. Rattle takes a struct of the three with that fact as a ghost field, but it is no
+// plainer: the functions that write would need a second one, and each clause would say `self.entry.width self.entry.at self.entry.bytes.now` for `width at s.now`.
 
 // The bytes of the read log, which the write log follows.
 const READ_LOG: usize = ReadEntry::SIZE * SlotRecord::READS;
@@ -56,52 +62,44 @@ pub fn read_at(s: &[u8], at: usize, width: usize, k: usize) -> ReadEntry
     requires { (width ≤ 8) × (at + slot_size width ≤ length s.now) × (k < read_capacity) }
     ensures { result ≡ read_entry_at width at s.now k }
 {
-    entries::read_of(s, at + 5 + 2 * width + ReadEntry::SIZE * k)
+    ReadEntry::read(s, at + 5 + 2 * width + ReadEntry::SIZE * k)
 }
 
-// Write entry `k` of the slot at `at`.
+// Write entry `k` of the slot at `at`. It stands beside `read_at`: a generic one would need the place of its log as one more parameter, and is one line as well.
 pub fn write_at(s: &[u8], at: usize, width: usize, k: usize) -> WriteEntry
     requires { (width ≤ 8) × (at + slot_size width ≤ length s.now) × (k < write_capacity) }
     ensures { result ≡ write_entry_at width at s.now k }
 {
-    entries::write_of(s, at + 5 + 2 * width + READ_LOG + WriteEntry::SIZE * k)
+    WriteEntry::read(s, at + 5 + 2 * width + READ_LOG + WriteEntry::SIZE * k)
 }
 
 // The read entry of a cell.
-pub fn find_read(s: &[u8], at: usize, width: usize, cell: u8) -> ReadFound
+pub fn find_read(s: &[u8], at: usize, width: usize, cell: u8) -> Option<ReadEntry>
     requires { (width ≤ 8) × (at + slot_size width ≤ length s.now) }
     ensures { result ≡ read_found_at width at s.now cell }
 {
-    let count = s[at + 3] as usize;
-    let mut i = 0;
-    while i < SlotRecord::READS && i < count {
-        let e = read_at(s, at, width, i);
-        if e.cell == cell {
-            return ReadFound::Entry(e);
-        }
-        i += 1;
-    }
-    ReadFound::Nothing
+    let count = SlotRecord::READS.min(usize::from(s[at + 3]));
+    (0..count)
+        .map(|k| read_at(s, at, width, k))
+        .find(|e| e.cell == cell)
 }
 
 // The write entry of a cell. The log ascends: the first entry that is not below the cell is its own, or there is none.
-pub fn find_write(s: &[u8], at: usize, width: usize, cell: u8) -> WriteFound
+pub fn find_write(s: &[u8], at: usize, width: usize, cell: u8) -> Option<WriteEntry>
     requires { (width ≤ 8) × (at + slot_size width ≤ length s.now) × Ascends width at s.now }
     ensures { result ≡ write_found_at width at s.now cell }
 {
-    let count = s[at + 4] as usize;
-    let mut next = 0;
-    while next < SlotRecord::WRITES && next < count {
-        let e = write_at(s, at, width, next);
+    let count = SlotRecord::WRITES.min(usize::from(s[at + 4]));
+    for k in 0..count {
+        let e = write_at(s, at, width, k);
         if cell <= e.cell {
             if e.cell == cell {
-                return WriteFound::Entry(e);
+                return Some(e);
             }
-            return WriteFound::Nothing;
+            return None;
         }
-        next += 1;
     }
-    WriteFound::Nothing
+    None
 }
 
 // Whether an entry of the read log is marked.
@@ -109,16 +107,8 @@ pub fn some_marked(s: &[u8], at: usize, width: usize) -> bool
     requires { (width ≤ 8) × (at + slot_size width ≤ length s.now) }
     ensures { result ≡ marked_at width at s.now }
 {
-    let count = s[at + 3] as usize;
-    let mut i = 0;
-    while i < SlotRecord::READS && i < count {
-        let e = read_at(s, at, width, i);
-        if e.mark {
-            return true;
-        }
-        i += 1;
-    }
-    false
+    let count = SlotRecord::READS.min(usize::from(s[at + 3]));
+    (0..count).map(|k| read_at(s, at, width, k)).any(|e| e.mark)
 }
 
 // Clears the slot at `at` to zero throughout.
@@ -127,11 +117,7 @@ pub fn clear(s: &mut [u8], at: usize, width: usize)
     ensures { s.new ≡ slot_cleared width at s.old }
 {
     let size = 5 + 2 * width + READ_LOG + WriteEntry::SIZE * SlotRecord::WRITES;
-    let mut k = 0;
-    while k < size {
-        s[at + k] = 0;
-        k += 1;
-    }
+    s[at..at + size].fill(0);
 }
 
 // Puts all but the logs at `at`.
@@ -139,15 +125,7 @@ pub fn put_fields(s: &mut [u8], at: usize, width: usize, v: SlotRecord)
     requires { at + slot_size width ≤ length s.old }
     ensures { s.new ≡ fields_put width at s.old v }
 {
-    entries::put_first(
-        s,
-        at,
-        v.phase,
-        v.ignoring,
-        v.taken,
-        v.readcount,
-        v.writecount,
-    );
+    entries::put_first(s, at, &v);
     wire::put(s, at + 5, width, v.start);
     wire::put(s, at + 5 + width, width, v.commit);
 }
@@ -157,8 +135,17 @@ pub fn put_read(s: &mut [u8], at: usize, width: usize, k: usize, v: SlotRecord)
     requires { (at + slot_size width ≤ length s.old) × (k < read_capacity) }
     ensures { s.new ≡ read_entry_put width at s.old k v }
 {
-    let e = v.reads[k];
-    entries::put_read_entry(s, at + 5 + 2 * width + ReadEntry::SIZE * k, e);
+    v.reads[k].put(s, at + 5 + 2 * width + ReadEntry::SIZE * k);
+}
+
+// Puts the entries of a log one after the other, from `at` on.
+fn put_log<E: Entry>(s: &mut [u8], at: usize, log: &[E])
+    requires { at + E.SIZE * length log.now ≤ length s.old }
+    ensures { (d : E) → s.new ≡ splice s.old at (cat (length log.now) (λ i. E.bytes (get_or log.now i d))) }
+{
+    for (i, entry) in log.iter().enumerate() {
+        entry.put(s, at + E::SIZE * i);
+    }
 }
 
 // Puts the read log of the slot at `at`.
@@ -166,13 +153,7 @@ pub fn put_reads(s: &mut [u8], at: usize, width: usize, v: SlotRecord)
     requires { at + slot_size width ≤ length s.old }
     ensures { s.new ≡ read_log_put width at s.old v }
 {
-    let log = v.reads;
-    let place = at + 5 + 2 * width;
-    let mut i = 0;
-    while i < SlotRecord::READS {
-        entries::put_read_entry(s, place + ReadEntry::SIZE * i, log[i]);
-        i += 1;
-    }
+    put_log(s, at + 5 + 2 * width, &v.reads);
 }
 
 // Puts the write log of the slot at `at`.
@@ -180,11 +161,5 @@ pub fn put_writes(s: &mut [u8], at: usize, width: usize, v: SlotRecord)
     requires { at + slot_size width ≤ length s.old }
     ensures { s.new ≡ write_log_put width at s.old v }
 {
-    let log = v.writes;
-    let place = at + 5 + 2 * width + READ_LOG;
-    let mut i = 0;
-    while i < SlotRecord::WRITES {
-        entries::put_write_entry(s, place + WriteEntry::SIZE * i, log[i]);
-        i += 1;
-    }
+    put_log(s, at + 5 + 2 * width + READ_LOG, &v.writes);
 }

@@ -1,6 +1,6 @@
 -- The searches over n groups see the first 2 × n words alone.
 use mathlib.Core.List.{List}
-use mathlib.Core.Option.{Option, none, some}
+use Rattle.std.specs.Prelude.{Option, None, Some}
 use mathlib.Core.Path.{◌≡◌, refl}
 use Prim.Native.Nat.{ℕ, zero, suc, ◌+◌, ◌*◌, ◌<◌}
 use native.Mathlib.Omega.{arith}
@@ -28,9 +28,9 @@ module _ (words others : List ℕ) where
   unfolding pickable
   pickable-alike n g alike h = rw (alike (2 * g) (omega arith), alike (2 * g + 1) (omega arith))
 
-  better-alike : (n : ℕ) → Alike (suc n) → (o : Option ℕ) → ((best : ℕ) → o ≡ some best → best < n) → better words n o ≡ better others n o
-  better-alike n alike none inside = rw (pickable-alike (suc n) n alike (omega arith))
-  better-alike n alike (some best) inside =
+  better-alike : (n : ℕ) → Alike (suc n) → (o : Option ℕ) → ((best : ℕ) → o ≡ Some best → best < n) → better words n o ≡ better others n o
+  better-alike n alike None inside = rw (pickable-alike (suc n) n alike (omega arith))
+  better-alike n alike (Some best) inside =
       let low = inside best refl in
       rw (
         pickable-alike (suc n) n alike (omega arith),

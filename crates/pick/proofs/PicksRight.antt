@@ -1,7 +1,7 @@
 -- The pick rule, group by group: what the best of the first n groups is, once one more is looked at.
 use mathlib.Core.Bool.{Bool, true, false, cond, false≢true}
 use mathlib.Core.List.{List}
-use mathlib.Core.Option.{Option, none, some}
+use Rattle.std.specs.Prelude.{Option, None, Some}
 use mathlib.Core.Path.{◌≡◌, refl, sym, ◌∙◌, ap, subst}
 use Prim.Native.Nat.{ℕ, zero, suc, ◌<◌, ◌≤◌}
 use native.Mathlib.Omega.{arith}
@@ -29,8 +29,8 @@ module _ (words : List ℕ) where
 
   -- what the search says once it has seen n groups
   abbrev Best : ℕ → Option ℕ → Type 0
-  Best n none = NoneLeft words n
-  Best n (some g) = LeastWorn words n g
+  Best n None = NoneLeft words n
+  Best n (Some g) = LeastWorn words n g
 
   -- a fact of the groups below n, and of group n
   one_more : (P : ℕ → Type 0) (n : ℕ) → ((g : ℕ) → g < n → P g) → P n → (g : ℕ) → g < suc n → P g
@@ -42,9 +42,9 @@ module _ (words : List ℕ) where
 
   best-next : (n : ℕ) (o : Option ℕ) → Best n o → Best (suc n) (better words n o)
   unfolding ◌and◌
-  best-next n none left = by (pickable words n) refl
+  best-next n None left = by (pickable words n) refl
     where
-      by : (b : Bool) → pickable words n ≡ b → Best (suc n) (cond b (some n) none)
+      by : (b : Bool) → pickable words n ≡ b → Best (suc n) (cond b (Some n) None)
       by true p =
           record {
             inside = omega arith;
@@ -54,7 +54,7 @@ module _ (words : List ℕ) where
             lowest = λ h l u c. absurd (left h l u c);
           }
       by false p = one_more (λ g. usable words g ≡ true → erases words g < last_count → ⊥) n left (λ u l. cannot n p (u, l))
-  best-next n (some g) least = by (pickable words n) (ltb (erases words n) (erases words g)) refl refl
+  best-next n (Some g) least = by (pickable words n) (ltb (erases words n) (erases words g)) refl refl
     where
       before : AtLeast n (erases words g)
       before = least.fewest
@@ -70,7 +70,7 @@ module _ (words : List ℕ) where
             lowest = least.lowest;
           }
 
-      by : (b d : Bool) → pickable words n ≡ b → ltb (erases words n) (erases words g) ≡ d → Best (suc n) (cond (b and d) (some n) (some g))
+      by : (b d : Bool) → pickable words n ≡ b → ltb (erases words n) (erases words g) ≡ d → Best (suc n) (cond (b and d) (Some n) (Some g))
       by true true p q =
           let fewer = ltb-true (erases words n) (erases words g) q in
           record {
@@ -104,26 +104,26 @@ module _ (words : List ℕ) where
       by false false e f few few' less less' = let k = ltb-false g h e in let l = ltb-false h g f in omega arith
 
   -- what was found is what a law says of it
-  found-is : (n g : ℕ) → LeastWorn words n g → (o : Option ℕ) → Best n o → o ≡ some g
-  found-is n g p none left = absurd (left g p.inside p.is_usable p.below)
-  found-is n g p (some h) q = ap some (one-least n h g q p)
+  found-is : (n g : ℕ) → LeastWorn words n g → (o : Option ℕ) → Best n o → o ≡ Some g
+  found-is n g p None left = absurd (left g p.inside p.is_usable p.below)
+  found-is n g p (Some h) q = ap Some (one-least n h g q p)
 
-  none_is : (n : ℕ) → NoneLeft words n → (o : Option ℕ) → Best n o → o ≡ none
-  none_is n left none q = refl
-  none_is n left (some g) q = absurd (left g q.inside q.is_usable q.below)
+  none_is : (n : ℕ) → NoneLeft words n → (o : Option ℕ) → Best n o → o ≡ None
+  none_is n left None q = refl
+  none_is n left (Some g) q = absurd (left g q.inside q.is_usable q.below)
 
   -- what the search for a negative count says once it has seen n groups
   abbrev Sign : ℕ → Option ℕ → Type 0
-  Sign n none = (g : ℕ) → g < n → negative (erases words g) ≡ false
-  Sign n (some p) = (g : ℕ) × FirstNegative words n g × (p ≡ erases_place g)
+  Sign n None = (g : ℕ) → g < n → negative (erases words g) ≡ false
+  Sign n (Some p) = (g : ℕ) × FirstNegative words n g × (p ≡ erases_place g)
 
-  sign-next : (n : ℕ) (o : Option ℕ) → Sign n o → Sign (suc n) (or_else o (cond (negative (erases words n)) (some (erases_place n)) none))
-  sign-next n none sound = by (negative (erases words n)) refl
+  sign-next : (n : ℕ) (o : Option ℕ) → Sign n o → Sign (suc n) (or_else o (cond (negative (erases words n)) (Some (erases_place n)) None))
+  sign-next n None sound = by (negative (erases words n)) refl
     where
-      by : (b : Bool) → negative (erases words n) ≡ b → Sign (suc n) (cond b (some (erases_place n)) none)
+      by : (b : Bool) → negative (erases words n) ≡ b → Sign (suc n) (cond b (Some (erases_place n)) None)
       by true e = (n, record { inside = omega arith; is_negative = e; earlier = sound }, refl)
       by false e = one_more (λ g. negative (erases words g) ≡ false) n sound e
-  sign-next n (some p) first =
+  sign-next n (Some p) first =
       let here = first.1 in
       let inside = here.inside in
       (first.0, record { inside = omega arith; is_negative = here.is_negative; earlier = here.earlier }, first.2)
@@ -133,9 +133,9 @@ module _ (words : List ℕ) where
   signs zero = λ g h. absurd (omega arith)
   signs (suc n) = sign-next n (negative_at words n) (signs n)
 
-  sound-is : (n : ℕ) → ((g : ℕ) → g < n → negative (erases words g) ≡ false) → (o : Option ℕ) → Sign n o → o ≡ none
-  sound-is n sound none q = refl
-  sound-is n sound (some p) q = absurd (false≢true (sym (sound q.0 q.1.inside) ∙ q.1.is_negative))
+  sound-is : (n : ℕ) → ((g : ℕ) → g < n → negative (erases words g) ≡ false) → (o : Option ℕ) → Sign n o → o ≡ None
+  sound-is n sound None q = refl
+  sound-is n sound (Some p) q = absurd (false≢true (sym (sound q.0 q.1.inside) ∙ q.1.is_negative))
 
 pub picks-right : PicksRight
 picks-right =

@@ -1,4 +1,3 @@
 pub mod Groups
 pub mod Pick
-pub mod Found
 pub mod PicksRight

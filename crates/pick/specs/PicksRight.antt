@@ -1,6 +1,5 @@
 -- What the pick rule comes to, said of all groups at once.
-use Rattle.std.specs.Prelude.{true, false, List, ◌≡◌, ℕ, ◌<◌, ◌≤◌}
-use Rattle.std.proofs.Math.Option.{none, some}
+use Rattle.std.specs.Prelude.{true, false, List, None, Some, ◌≡◌, ℕ, ◌<◌, ◌≤◌}
 use Rattle.pick.specs.Groups.{erases_place, usable, erases, negative, last_count}
 use Rattle.pick.specs.Pick.{negative_at, picked}
 
@@ -24,11 +23,11 @@ pub record FirstNegative (words : List ℕ) (n g : ℕ) : Type 0 where
 
 pub record PicksRight : Type 0 where
   -- a group is picked exactly if it is the least worn, and none exactly if none is left
-  pub pick : (words : List ℕ) (n g : ℕ) → picked words n ≡ some g → LeastWorn words n g
-  pub picks : (words : List ℕ) (n g : ℕ) → LeastWorn words n g → picked words n ≡ some g
-  pub none_left : (words : List ℕ) (n : ℕ) → picked words n ≡ none → NoneLeft words n
-  pub no_pick : (words : List ℕ) (n : ℕ) → NoneLeft words n → picked words n ≡ none
+  pub pick : (words : List ℕ) (n g : ℕ) → picked words n ≡ Some g → LeastWorn words n g
+  pub picks : (words : List ℕ) (n g : ℕ) → LeastWorn words n g → picked words n ≡ Some g
+  pub none_left : (words : List ℕ) (n : ℕ) → picked words n ≡ None → NoneLeft words n
+  pub no_pick : (words : List ℕ) (n : ℕ) → NoneLeft words n → picked words n ≡ None
   -- no count is negative exactly if none is found, and the place that is found is that of the first
-  pub sound : (words : List ℕ) (n : ℕ) → negative_at words n ≡ none → (g : ℕ) → g < n → negative (erases words g) ≡ false
-  pub all_sound : (words : List ℕ) (n : ℕ) → ((g : ℕ) → g < n → negative (erases words g) ≡ false) → negative_at words n ≡ none
-  pub first : (words : List ℕ) (n p : ℕ) → negative_at words n ≡ some p → (g : ℕ) × FirstNegative words n g × (p ≡ erases_place g)
+  pub sound : (words : List ℕ) (n : ℕ) → negative_at words n ≡ None → (g : ℕ) → g < n → negative (erases words g) ≡ false
+  pub all_sound : (words : List ℕ) (n : ℕ) → ((g : ℕ) → g < n → negative (erases words g) ≡ false) → negative_at words n ≡ None
+  pub first : (words : List ℕ) (n p : ℕ) → negative_at words n ≡ Some p → (g : ℕ) × FirstNegative words n g × (p ≡ erases_place g)

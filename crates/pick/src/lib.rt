@@ -1,60 +1,41 @@
 // The pick rule of a wear set, on the words of its cells: group by group the truth cell's, then the erases cell's.
 #![tactic(auto)]
 
-ghost use Rattle.std.specs.Prelude.{◌≡◌, ◌*◌, ◌+◌, ◌≤◌, length};
-ghost use Rattle.pick.specs.Found.{negative_place, picked_group, count_from};
+ghost use Rattle.std.specs.Prelude.{◌≡◌, ◌/◌, length};
+ghost use Rattle.pick.specs.Pick.{negative_at, picked};
 
 // The first word that is negative as a signed number, and the last that is not: a count there can't be raised.
 const NEGATIVE: u32 = 2147483648;
 
 const LAST_COUNT: u32 = 2147483647;
 
-// The least truth word of a group whose count is asked for: of any group, or of the usable ones alone.
-const ANY: u32 = 0;
-
-const USABLE: u32 = 1;
-
-// The erases of group `g` if its truth cell's word is at least `least`. Else the last count, which is neither negative nor picked.
-fn count_of(words: &[u32], g: usize, least: u32) -> u32
-    requires { 2 * g + 2 ≤ length words.now }
-    ensures { result ≡ count_from least words.now g }
+// The place of the first negative count, usable or not; None if there is none.
+#[tactic(auto, using(crate::proofs::Searches::negative_start, crate::proofs::Searches::negative_found, crate::proofs::Searches::negative_next))]
+pub fn negative_at(words: &[u32]) -> Option<usize>
+    ensures { result ≡ negative_at words.now (length words.now / 2) }
 {
-    if words[2 * g] < least {
-        return LAST_COUNT;
-    }
-    words[2 * g + 1]
-}
-
-// The place of the first negative count, usable or not: `2 * groups` if there is none.
-pub fn negative_at(words: &[u32], groups: usize) -> usize
-    requires { 2 * groups ≤ length words.now }
-    ensures { result ≡ negative_place words.now groups }
-{
-    let mut g = 0;
-    while g < groups {
-        if NEGATIVE <= count_of(words, g, ANY) {
-            return 2 * g + 1;
+    for g in 0..words.len() / 2 {
+        let count = words[2 * g + 1];
+        if NEGATIVE <= count {
+            return Some(2 * g + 1);
         }
-        g += 1;
     }
-    2 * groups
+    None
 }
 
-// The usable group with the fewest erases, the lowest on a tie: `groups` if there is none below the last count.
-pub fn pick(words: &[u32], groups: usize) -> usize
-    requires { 2 * groups ≤ length words.now }
-    ensures { result ≡ picked_group words.now groups }
+// The usable group with the fewest erases, the lowest on a tie; None if there is none. A group at the last count can't be picked.
+pub fn pick(words: &[u32]) -> Option<usize>
+    ensures { result ≡ picked words.now (length words.now / 2) }
 {
+    let mut best = None;
     let mut fewest = LAST_COUNT;
-    let mut best = groups;
-    let mut g = 0;
-    while g < groups {
-        let count = count_of(words, g, USABLE);
-        if count < fewest {
-            fewest = count;
-            best = g;
+    for g in 0..words.len() / 2 {
+        let usable = words[2 * g] != 0;
+        let erases = words[2 * g + 1];
+        if usable && erases < fewest {
+            best = Some(g);
+            fewest = erases;
         }
-        g += 1;
     }
     best
 }

@@ -1,30 +1,28 @@
--- A loop that fills the array of a read log with the changed entries of a log: after k turns it has those of the first k, and zero behind them.
-use mathlib.Core.List.{List, [], ◌∷◌, ◌++◌, map, map-append}
+-- A read log with its entries changed: the changed entries, one for each, and zero behind them.
+use mathlib.Core.List.{List, ◌++◌, map}
 use mathlib.Core.Path.{◌≡◌, sym, ap, ◌∙◌}
-use Prim.Native.Nat.{ℕ, ◌+◌, ◌-◌, ◌<◌, ◌≤◌}
-use native.Mathlib.Numerals.{add-one}
-use native.Mathlib.Omega.{arith}
-use lib.ListN.{length, get_or, take, set, replicate, length-map}
-use lib.Seq.{length-take-le, take-suc}
-use Rattle.slot.specs.Layout.{read_capacity}
-use Rattle.slot.proofs.Padding.{length-padded, padded-next}
+use Prim.Native.Nat.{ℕ, ◌-◌, ◌≤◌}
+use lib.ListN.{length, get_or, take, drop, replicate, length-map, get_or-map}
+use lib.Seq.{length-take-le, get_or-take}
+use Rattle.std.proofs.lemmas.List.{drop-replicate}
+use Rattle.wire.specs.Table.{tab}
+use Rattle.wire.proofs.Laws.Table.{tab-ext, tab-of}
+use Rattle.slot.specs.Layout.{read_capacity, no_read}
+use Rattle.slot.specs.Logs.{padded_reads}
+use Rattle.slot.specs.declared.ReadEntry.{ReadEntry}
 
-module _ {A : Type 0} (f : A → A) (d : A) (l : List A) where
-  abbrev pub filled : ℕ → List A
-  filled k = map f (take k l) ++ replicate (read_capacity - length (map f (take k l))) d
+module _ (f : ReadEntry → ReadEntry) (reads : List ReadEntry) (n : ℕ) (h : n ≤ length reads) where
+  front_length : length (map f (take n reads)) ≡ n
+  front_length = length-map (take n reads) f ∙ length-take-le n reads h
 
-  front_length : (k : ℕ) → k ≤ length l → length (map f (take k l)) ≡ k
-  front_length k h = length-map (take k l) f ∙ length-take-le k l h
+  front-changed : tab n (λ k. f (get_or reads k no_read)) ≡ map f (take n reads)
+  front-changed =
+      tab-ext n (λ k. f (get_or reads k no_read)) (λ k. get_or (map f (take n reads)) k (f no_read))
+      (λ k below. sym (get_or-map f (take n reads) k no_read ∙ ap f (get_or-take n reads k no_read below)))
+      ∙ tab-of n (map f (take n reads)) (f no_read) front_length
 
-  pub filled-length : (k : ℕ) → k ≤ length l → k ≤ read_capacity → length (filled k) ≡ read_capacity
-  filled-length k h most = length-padded d (map f (take k l)) read_capacity (rw (front_length k h) most)
-
-  -- a turn puts the entry of place k
-  pub filled_next : (x : List A) (y : A) (k : ℕ) → k < length l → k < read_capacity → x ≡ filled k → y ≡ f (get_or l k d) → set x k y ≡ filled (k + 1)
-  filled_next x y k h room e new =
-      let size : length (map f (take k l)) ≡ k = front_length k (omega arith) in
-      let front : map f (take k l) ++ (f (get_or l k d) ∷ []) ≡ map f (take (k + 1) l) =
-      sym (map-append f (take k l) (get_or l k d ∷ [])) ∙ ap (map f) (sym (take-suc l k d h) ∙ ap (λ (n : ℕ). take n l) (sym (add-one k))) in
-      (λ j. set (e j) (sym size j) (new j))
-      ∙ padded-next d (map f (take k l)) read_capacity (f (get_or l k d)) (rw size room)
-      ∙ ap (λ (m : List A). m ++ replicate (read_capacity - length m) d) front
+  pub filled : (items : List ReadEntry) → items ≡ tab n (λ k. f (get_or reads k no_read)) → items ++ drop n (replicate read_capacity no_read) ≡ padded_reads (map f (take n reads))
+  filled items e =
+      ap (λ (front : List ReadEntry). front ++ drop n (replicate read_capacity no_read)) (e ∙ front-changed)
+      ∙ ap (λ (rest : List ReadEntry). map f (take n reads) ++ rest)
+      (drop-replicate n read_capacity no_read ∙ ap (λ (m : ℕ). replicate (read_capacity - m) no_read) (sym front_length))

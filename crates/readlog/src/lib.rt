@@ -4,20 +4,23 @@
 
 ghost use Rattle.std.specs.Prelude.{◌≡◌, ◌<◌};
 ghost use Rattle.slot.specs.Logic.{◌or◌};
+ghost use Rattle.slot.specs.declared.ReadEntry.{ReadEntry};
 ghost use Rattle.rules.specs.Cells.{held_by_other, newer, with_mark, reloaded};
 ghost use Rattle.rules.specs.Layout.{count_in};
 ghost use Rattle.area.specs.Good.{Good, state_in};
-ghost use Rattle.readlog.specs.Reload.{marked_reads, reloaded_reads, obstacle_in};
+ghost use Rattle.area.specs.InPlace.{fields_in};
+ghost use Rattle.readlog.specs.Reload.{changed_reads, marked_reads, reloaded_reads, obstacle_in};
 ghost use Rattle.readlog.specs.MarkedWritten.{marked_written_in};
 
+use area::SlotView;
 use rules::Cell;
 use slot::{ReadEntry, SlotRecord};
 
-// What stands in the way of a reload.
+// A cell that stands in the way of a reload, and the slot that holds it, counted from 1.
 #[derive(Clone, Copy)]
-pub enum Obstacle {
-    Held { cell: u8, holder: u8 },
-    Clear,
+pub struct Held {
+    pub cell: u8,
+    pub holder: u8,
 }
 
 // Whether what was read of a cell is out of date: another slot holds it, or it has a stamp above `start`.
@@ -25,21 +28,18 @@ fn outdated(i: u8, start: u64, x: Cell) -> bool
     requires { i < 8 }
     ensures { result ≡ (held_by_other i x or newer start x) }
 {
-    if area::held_by_other(i, x) {
-        return true;
-    }
-    start < x.stamp
+    area::held_by_other(i, x) || start < x.stamp
 }
 
-// A read entry with its mark, as enter gives it to slot `i`.
-fn marked_entry(s: &[u8], i: u8, start: u64, e: ReadEntry) -> ReadEntry
-    requires { Good s.now × (i < 8) × (e.cell < count_in s.now) }
-    ensures { result ≡ with_mark (state_in s.now) i start e }
+// A read entry with its mark, as enter gives it to a slot.
+fn marked_entry(slot: SlotView, start: u64, e: ReadEntry) -> ReadEntry
+    requires { e.cell < count_in slot.area.now }
+    ensures { result ≡ with_mark (state_in slot.entry.area.now) slot.entry.index start e }
 {
-    let x = area::cell_at(s, e.cell);
+    let x = area::cell_at(slot.area, e.cell);
     ReadEntry {
         cell: e.cell,
-        mark: outdated(i, start, x),
+        mark: outdated(slot.index, start, x),
         word: e.word,
     }
 }
@@ -57,68 +57,63 @@ fn reloaded_entry(s: &[u8], e: ReadEntry) -> ReadEntry
     }
 }
 
-// The read log of slot `i` with its marks.
-pub fn marked_reads(s: &[u8], i: u8) -> [ReadEntry; SlotRecord::READS]
-    requires { Good s.now × (i < 8) }
-    ensures { result ≡ marked_reads s.now i }
+// The read log of a slot, whose fields are `v`, with each entry changed.
+fn changed_reads<F: Fn(ReadEntry) -> ReadEntry>(
+    slot: SlotView,
+    v: SlotRecord,
+    change: F,
+) -> [ReadEntry; SlotRecord::READS]
+    requires v_value { v ≡ fields_in slot.area.now slot.index }
+    requires in_area { (e : ReadEntry) → e.cell < count_in slot.area.now → F.pre change e }
+    ensures { (f : ReadEntry → ReadEntry) → ((e r : ReadEntry) → F.post change e r → r ≡ f e) → result ≡ changed_reads slot.entry.area.now slot.entry.index f }
 {
-    let v = area::fields_at(s, i);
+    let n = usize::from(v.readcount);
+    let mut log = v.reads;
+    for (k, e) in log[..n].iter_mut().enumerate() {
+        *e = change(slot.read_entry(k));
+    }
+    log
+}
+
+// The read log of a slot with its marks.
+pub fn marked_reads(slot: SlotView) -> [ReadEntry; SlotRecord::READS]
+    ensures { result ≡ marked_reads slot.entry.area.now slot.entry.index }
+{
+    let v = slot.fields();
     let start = v.start;
-    let n = v.readcount as usize;
-    let mut log = v.reads;
-    let mut k = 0;
-    while k < n {
-        log[k] = marked_entry(s, i, start, area::read_at(s, i, k));
-        k += 1;
-    }
-    log
+    changed_reads(slot, v, |e| marked_entry(slot, start, e))
 }
 
-// The read log of slot `i` with the cells' present words.
-pub fn reloaded_reads(s: &[u8], i: u8) -> [ReadEntry; SlotRecord::READS]
-    requires { Good s.now × (i < 8) }
-    ensures { result ≡ reloaded_reads s.now i }
+// The read log of a slot with the cells' present words.
+pub fn reloaded_reads(slot: SlotView) -> [ReadEntry; SlotRecord::READS]
+    ensures { result ≡ reloaded_reads slot.entry.area.now slot.entry.index }
 {
-    let v = area::fields_at(s, i);
-    let n = v.readcount as usize;
-    let mut log = v.reads;
-    let mut k = 0;
-    while k < n {
-        log[k] = reloaded_entry(s, area::read_at(s, i, k));
-        k += 1;
-    }
-    log
+    changed_reads(slot, slot.fields(), |e| reloaded_entry(slot.area, e))
 }
 
-// The first cell of the read log that a slot other than `i` holds: the loop yields what stands in reload's way.
-pub fn first_obstacle(s: &[u8], i: u8) -> Obstacle
-    requires { Good s.now × (i < 8) }
-    ensures { result ≡ obstacle_in s.now i }
+// The first cell of the read log that a slot other than this one holds: it stands in the way of a reload. The search ends by break, as the rules document has it.
+pub fn first_obstacle(slot: SlotView) -> Option<Held>
+    ensures { result ≡ obstacle_in slot.entry.area.now slot.entry.index }
 {
-    let v = area::fields_at(s, i);
-    let n = v.readcount as usize;
-    // entries still to be looked at
-    let mut left = n;
-    loop {
-        if left == 0 {
-            break Obstacle::Clear;
-        }
-        let e = area::read_at(s, i, n - left);
-        let x = area::cell_at(s, e.cell);
-        if area::held_by_other(i, x) {
-            break Obstacle::Held {
+    let n = usize::from(slot.fields().readcount);
+    let mut obstacle = None;
+    for k in 0..n {
+        let e = slot.read_entry(k);
+        let x = area::cell_at(slot.area, e.cell);
+        if area::held_by_other(slot.index, x) {
+            obstacle = Some(Held {
                 cell: e.cell,
                 holder: x.holder,
-            };
+            });
+            break;
         }
-        left -= 1;
     }
+    obstacle
 }
 
-// Whether some marked cell is also in the write log of slot `i`.
-pub fn marked_written(s: &[u8], i: u8) -> bool
-    requires { Good s.now × (i < 8) }
-    ensures { result ≡ marked_written_in s.now i }
+// Whether some marked cell is also in the write log of a slot.
+pub fn marked_written(slot: SlotView) -> bool
+    ensures { result ≡ marked_written_in slot.entry.area.now slot.entry.index }
 {
-    bothlogs::marked_written(s, area::slot_offset(s, i), area::STAMP)
+    bothlogs::marked_written(slot.area, slot.offset(), area::STAMP)
 }

@@ -1,12 +1,13 @@
 -- The two reloads by computation, and from them any list: a state that refuses every reload of the list stays as it is.
+use Rattle.std.specs.Prelude.{Err}
 use mathlib.Core.Bool.{Bool, true, false}
 use mathlib.Core.List.{List, [], ◌∷◌, map}
 use mathlib.Core.Path.{◌≡◌, refl, ◌∙◌, ap, ap₂}
 use Prim.Native.Nat.{ℕ}
 use borrow.Author.Tests.{eqb-true}
 use lib.Dec.{eqb}
-use Rattle.call.specs.declared.Reply.{Reply}
-use Rattle.call.specs.declared.Reply.TheVariants.{ReloadHeld}
+use Rattle.call.specs.declared.Refusal.{Refusal}
+use Rattle.call.specs.declared.Refusal.TheVariants.{ReloadHeld}
 use Rattle.slot.specs.Logic.{◌or◌, all}
 use Rattle.slot.proofs.Logic.{and_left, and_right, or_right}
 use Rattle.rules.specs.Model.{controller}
@@ -18,9 +19,9 @@ use Rattle.rules.specs.Blocked.{blocked, reload_of, who_blocks, of_the_two, Bloc
 use Rattle.rules.proofs.Open.{computed}
 
 pub record Gets11 (o : Outcome) (slot : ℕ) : Type 0 where
-  pub reply : Reply
+  pub reply : Refusal
   pub refusal : o ≡ refused reply
-  pub told : show reply ≡ who_blocks slot
+  pub told : show (Err reply) ≡ who_blocks slot
 
 module _ (S : State) (gets : (s : ℕ) → (eqb s 1 or eqb s 2) ≡ true → Gets11 (step controller S (reload_of s)) s) where
   each-11 : (slots : List ℕ) → of_the_two slots ≡ true → replies controller S (map reload_of slots) ≡ map who_blocks slots

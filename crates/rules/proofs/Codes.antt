@@ -1,4 +1,5 @@
 -- The lowest code that applies is given: for each step its row and the table ask the same tests in the same order.
+use Rattle.std.specs.Prelude.{Err}
 use mathlib.Core.Bool.{Bool, true, false, not, cond}
 use mathlib.Core.List.{List, [], ◌∷◌}
 use mathlib.Core.Path.{◌≡◌, refl, sym, ◌∙◌, ap, subst}
@@ -10,9 +11,10 @@ use lib.ListN.{length, get_or}
 use Rattle.value.specs.Legal.{legal_word}
 use Rattle.value.specs.Value.{value_of, parsed}
 use Rattle.value.proofs.RoundTrip.{kind-back, word_back}
-use Rattle.call.specs.declared.Reply.{Reply}
-use Rattle.call.specs.declared.Reply.TheVariants.{Verdict, NotWellFormed, NoSuchSlot, NotAllowed, MarkedWritten, NoSuchCell, IllegalValue, NotInLog, OtherKind, LogFull, ReadHeld, ReadNewer, LockHeld, LastStamp}
-use Rattle.call.specs.Answer.{reply_code}
+use Rattle.call.specs.declared.Refusal.{Refusal}
+use Rattle.call.specs.Answer.{refusal_code, reply_code}
+use Rattle.call.specs.declared.Answer.TheVariants.{Verdict}
+use Rattle.call.specs.declared.Refusal.TheVariants.{NotWellFormed, NoSuchSlot, NotAllowed, MarkedWritten, NoSuchCell, IllegalValue, NotInLog, OtherKind, LogFull, ReadHeld, ReadNewer, LockHeld, LastStamp}
 use Rattle.call.specs.Decode.{decoded}
 use Rattle.slot.specs.declared.ReadEntry.{ReadEntry}
 use Rattle.slot.specs.declared.WriteEntry.{WriteEntry}
@@ -46,12 +48,12 @@ abbrev Ends : Ending → Outcome → Type 0
 Ends e o = ending o ≡ e
 
 -- a test that the row and the table both ask
-tested : (t : Bool) (r : Reply) (o : Outcome) (e : Ending) → Ends e o → Ends (cond t (refusal (reply_code r)) e) (refuse_if t r o)
+tested : (t : Bool) (r : Refusal) (o : Outcome) (e : Ending) → Ends e o → Ends (cond t (refusal (refusal_code r)) e) (refuse_if t r o)
 tested true r o e f = refl
 tested false r o e f = f
 
 -- .. or that the table asks beside another one, which doesn't apply
-tested-beside : (t : Bool) (r : Reply) (o : Outcome) (e : Ending) → Ends e o → Ends (cond (t or false) (refusal (reply_code r)) e) (refuse_if t r o)
+tested-beside : (t : Bool) (r : Refusal) (o : Outcome) (e : Ending) → Ends e o → Ends (cond (t or false) (refusal (refusal_code r)) e) (refuse_if t r o)
 unfolding ◌or◌
 tested-beside true r o e f = refl
 tested-beside false r o e f = f
@@ -267,7 +269,7 @@ answer-code M bytes (refused r) = refl
 answer-code M bytes (accepted r T) = refl
 
 on-bytes : (M : Model) (bytes : List ℕ) (right : Bool) (o : Outcome) (e : Ending) → Ends e o
-    → reply_code (cond right (answered M bytes o) (record { reply = NotWellFormed; bytes = bytes })).reply ≡ cond right (ending_code e) 1
+    → reply_code (cond right (answered M bytes o) (record { reply = Err NotWellFormed; bytes = bytes })).reply ≡ cond right (ending_code e) 1
 on-bytes M bytes true o e f = answer-code M bytes o ∙ ap ending_code f
 on-bytes M bytes false o e f = refl
 

@@ -1,9 +1,9 @@
 -- The area's round trip, the step on bytes and the lay-out on bytes: total for any bytes.
-use Rattle.std.specs.Prelude.{Bool, cond, List, ℕ, ◌*◌, ◌/◌, eqb, length, get_or, drop, replicate}
+use Rattle.std.specs.Prelude.{Bool, cond, List, ℕ, ◌*◌, ◌/◌, eqb, length, get_or, drop, replicate, Err, Ok}
 use Rattle.std.proofs.Math.Option.{Option, none, some}
 use Rattle.value.specs.Legal.{legal_word}
-use Rattle.call.specs.declared.Reply.{Reply}
-use Rattle.call.specs.declared.Reply.TheVariants.{NotWellFormed}
+use Rattle.call.specs.Answer.{Reply}
+use Rattle.call.specs.declared.Refusal.TheVariants.{NotWellFormed}
 use Rattle.wire.specs.Field.{be}
 use Rattle.wire.specs.Table.{tab}
 use Rattle.slot.specs.Logic.{◌and◌, all}
@@ -32,13 +32,13 @@ pub record Answered : Type 0 where
 
 -- a refusal leaves the area untouched; else it holds the state after the step
 abbrev pub answered : Model → List ℕ → Outcome → Answered
-answered M a (refused r) = record { reply = r; bytes = a }
-answered M a (accepted r S) = record { reply = r; bytes = pack M S }
+answered M a (refused r) = record { reply = Err r; bytes = a }
+answered M a (accepted r S) = record { reply = Ok r; bytes = pack M S }
 
 -- code 1: the area is not well formed
 unfoldable pub step_on_bytes : Model → List ℕ → Call → Answered
 step_on_bytes M a call =
-    cond (well_formed M a) (answered M a (step M (state_of M a) call)) (record { reply = NotWellFormed; bytes = a })
+    cond (well_formed M a) (answered M a (step M (state_of M a) call)) (record { reply = Err NotWellFormed; bytes = a })
 
 -- descriptions of 5 bytes, kind and word
 abbrev pub description_size : ℕ

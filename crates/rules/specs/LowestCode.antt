@@ -1,6 +1,6 @@
 -- "The lowest code that applies is given, and none is given otherwise." "14 held, tested before 10." "15, tested after 4."
 use Rattle.std.specs.Prelude.{Bool, true, false, cond, List, ◌≡◌, ℕ, ◌*◌, eqb, ltb}
-use Rattle.call.specs.Answer.{reply_code}
+use Rattle.call.specs.Answer.{answer_code, refusal_code, reply_code}
 use Rattle.slot.specs.Logic.{◌and◌, any, pairwise}
 use Rattle.rules.specs.Model.{Model}
 use Rattle.rules.specs.State.{State}
@@ -14,8 +14,8 @@ use Rattle.rules.specs.Codes.{code_table, Ending, refusal, outcome, ending_code,
 
 -- how a step ended
 abbrev pub ending : Outcome → Ending
-ending (refused r) = refusal (reply_code r)
-ending (accepted r T) = outcome (reply_code r)
+ending (refused r) = refusal (refusal_code r)
+ending (accepted r T) = outcome (answer_code r)
 
 -- How low a code is, in tenths: 15 stands between 4 and 5, 14 between 9 and 10, and every other code where its number is.
 abbrev pub height : ℕ → ℕ

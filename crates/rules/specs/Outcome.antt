@@ -1,29 +1,31 @@
 -- What a step comes to: refused, which changes nothing, or accepted, with the state after it. And the tests that a step's row is made of: each goes on if it
 -- holds and refuses if not, so the order of codes is the order of the tests in the text.
-use Rattle.std.specs.Prelude.{Bool, cond, not, List, ℕ, eqb, leb}
+use Rattle.std.specs.Prelude.{Bool, cond, not, List, ℕ, eqb, leb, Ok, Err}
 use Rattle.std.proofs.Math.Option.{Option, none, some}
 use Rattle.value.specs.declared.CellValue.{CellValue}
 use Rattle.value.specs.Legal.{legal_word}
 use Rattle.value.specs.Value.{kind_of, word_of}
-use Rattle.call.specs.declared.Reply.{Reply}
-use Rattle.call.specs.declared.Reply.TheVariants.{NotAllowed, NoSuchCell, IllegalValue, OtherKind, NotInLog, LastStamp}
+use Rattle.call.specs.declared.Answer.{Answer}
+use Rattle.call.specs.declared.Refusal.{Refusal}
+use Rattle.call.specs.Answer.{Reply}
+use Rattle.call.specs.declared.Refusal.TheVariants.{NotAllowed, NoSuchCell, IllegalValue, OtherKind, NotInLog, LastStamp}
 use Rattle.slot.specs.declared.ReadEntry.{ReadEntry}
 use Rattle.slot.specs.declared.WriteEntry.{WriteEntry}
 use Rattle.rules.specs.Model.{Model, last_stamp}
 use Rattle.rules.specs.State.{State, Slot, idle, opened, locking, twilight, publishing, cell_at, cell_count}
 
 pub data Outcome : Type 0 where
-  refused : Reply → Outcome
-  accepted : Reply → State → Outcome
+  refused : Refusal → Outcome
+  accepted : Answer → State → Outcome
 
 abbrev pub reply_of : Outcome → Reply
-reply_of (refused r) = r
-reply_of (accepted r S) = r
+reply_of (refused r) = Err r
+reply_of (accepted a S) = Ok a
 
 -- the state after a step from S
 abbrev pub after : State → Outcome → State
 after S (refused r) = S
-after S (accepted r T) = T
+after S (accepted a T) = T
 
 -- code 4, by phase
 abbrev pub when_idle : Slot → Outcome → Outcome
@@ -70,7 +72,7 @@ when_uncommitted (twilight ignoring start commit reads writes) o = o
 when_uncommitted (publishing ignoring taken start commit reads writes) o = refused NotAllowed
 
 -- a code is given if a test says so, else the step goes on
-abbrev pub refuse_if : Bool → Reply → Outcome → Outcome
+abbrev pub refuse_if : Bool → Refusal → Outcome → Outcome
 refuse_if test r o = cond test (refused r) o
 
 -- code 5: cell not below n

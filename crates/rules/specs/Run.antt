@@ -1,7 +1,6 @@
 -- A list of calls, one after the other: what is replied, and the state at the end.
 use Rattle.std.specs.Prelude.{List, [], ◌∷◌, ℕ}
-use Rattle.call.specs.declared.Reply.{Reply}
-use Rattle.call.specs.Answer.{reply_code, reply_kind, reply_word}
+use Rattle.call.specs.Answer.{Reply, reply_code, reply_kind, reply_word}
 use Rattle.rules.specs.Model.{Model}
 use Rattle.rules.specs.State.{State}
 use Rattle.rules.specs.Outcome.{reply_of, after}

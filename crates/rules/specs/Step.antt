@@ -1,11 +1,10 @@
 -- The whole step: the lowest code that applies is given (14 before 10).
-use Rattle.std.specs.Prelude.{not, ℕ, pred, leb}
+use Rattle.std.specs.Prelude.{not, ℕ, pred, leb, Ok, Err}
 use Rattle.call.specs.declared.Step.{Step}
 use Rattle.call.specs.declared.Step.TheVariants.{Begin, Read, Write, Close, Lock, Enter, Reread, Update, Ask, Reload, Ignore, Finish, Publish, GiveUp}
-use Rattle.call.specs.declared.Decoded.{Decoded}
-use Rattle.call.specs.declared.Decoded.TheVariants.{Made, IllegalWrite, IllegalUpdate, Unknown}
-use Rattle.call.specs.declared.Reply.TheVariants.{NoSuchStep, NoSuchSlot}
-use Rattle.call.specs.Decode.{decoded}
+use Rattle.call.specs.Decode.{Decoded, decoded}
+use Rattle.call.specs.declared.Undecoded.TheVariants.{IllegalWrite, IllegalUpdate, Unknown}
+use Rattle.call.specs.declared.Refusal.TheVariants.{NoSuchStep, NoSuchSlot}
 use Rattle.slot.specs.Logic.{◌and◌}
 use Rattle.rules.specs.Model.{Model, last_step}
 use Rattle.rules.specs.State.{State}
@@ -43,10 +42,10 @@ inside_slots M slot o = refuse_if (not (leb 1 slot and leb slot M.slots)) NoSuch
 
 -- then what the step's row says; without a value a write or an update gets 6 in the place of its value's tests
 unfoldable pub step_of : Model → State → ℕ → Decoded → Outcome
-step_of M S slot (Made s) = inside_slots M slot (row M S (pred slot) s)
-step_of M S slot (IllegalWrite c) = inside_slots M slot (illegal_write M S (pred slot) c)
-step_of M S slot (IllegalUpdate c) = inside_slots M slot (illegal_update M S (pred slot) c)
-step_of M S slot Unknown = refused NoSuchStep
+step_of M S slot (Ok s) = inside_slots M slot (row M S (pred slot) s)
+step_of M S slot (Err (IllegalWrite c)) = inside_slots M slot (illegal_write M S (pred slot) c)
+step_of M S slot (Err (IllegalUpdate c)) = inside_slots M slot (illegal_update M S (pred slot) c)
+step_of M S slot (Err Unknown) = refused NoSuchStep
 
 -- code 2: step number outside 1 to 14
 abbrev pub inside_steps : Model → ℕ → Outcome → Outcome

@@ -2,8 +2,9 @@
 use Rattle.std.specs.Prelude.{Bool, true, false, not, cond, List, [], ◌∷◌, ◌++◌, map, ℕ, suc, ltb, leb, length, get_or, set}
 use Rattle.value.specs.declared.CellValue.{CellValue}
 use Rattle.value.specs.Value.{word_of, value_of}
-use Rattle.call.specs.declared.Reply.{Reply}
-use Rattle.call.specs.declared.Reply.TheVariants.{Done, Verdict, Value, NotAllowed, MarkedWritten, IllegalValue, LogFull, ReadHeld, ReadNewer, LockHeld, ReloadHeld, Aborted}
+use Rattle.call.specs.declared.Answer.{Answer}
+use Rattle.call.specs.declared.Answer.TheVariants.{Done, Verdict, Value, Aborted}
+use Rattle.call.specs.declared.Refusal.TheVariants.{NotAllowed, MarkedWritten, IllegalValue, LogFull, ReadHeld, ReadNewer, LockHeld, ReloadHeld}
 use Rattle.slot.specs.declared.ReadEntry.{ReadEntry}
 use Rattle.slot.specs.declared.WriteEntry.{WriteEntry}
 use Rattle.slot.specs.Layout.{read_capacity, write_capacity, no_write}
@@ -15,7 +16,7 @@ use Rattle.rules.specs.Cells.{held_by_other, newer, with_mark, reloaded, obstacl
 use Rattle.rules.specs.Outcome.{Outcome, refused, accepted, when_idle, when_open, when_locking, when_twilight, when_publishing, when_uncommitted, refuse_if, inside_cells, fitting_value, in_log, found_or, below_last_stamp}
 
 -- "Answers kind and word": the word in the cell's kind
-abbrev pub answer : State → ℕ → ℕ → Reply
+abbrev pub answer : State → ℕ → ℕ → Answer
 answer S c word = Value (value_of (cell_at S c).kind word)
 
 -- 1 begin: open; start := clock; logs empty

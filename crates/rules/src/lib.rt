@@ -2,7 +2,8 @@
 // share with the code that reads and writes it.
 #![tactic(auto)]
 
-// A cell: its kind, its holder (0 for none, or a slot from 1), its word and its stamp.
+// A cell: its kind, its holder (0 for none, or a slot from 1), its word and its stamp. Kind and holder are numbers, as the definitions have them
+// (`cell_of`): a lent area may hold any byte there.
 #[derive(Clone, Copy)]
 pub struct Cell {
     pub kind: u8,

@@ -1,18 +1,18 @@
 // Runs the step sheet on standard input, and writes what it prints to standard output.
 #![tactic(auto)]
 
-use stage::Ran;
 use std::io;
-use std::io::Write;
 
 fn main(rt: HostRuntime) -> io::Result<()> {
     let mut input = [0u8; stage::MOST_INPUT];
-    let count = intake::read_full(&mut rt.stdin(), &mut input)?;
     let mut area = [0u8; stage::MOST_AREA];
     let mut out = [0u8; sheet::MOST_OUTPUT];
-    let ran = sheet::run_sheet(&input[..count], &mut area, &mut out);
-    let Ran::Written(end) = ran else {
-        return Ok(());
-    };
-    io::writer(&rt).write_all(&out[..end])
+    intake::pass(
+        &mut rt.stdin(),
+        &mut io::writer(&rt),
+        &mut input,
+        &mut area,
+        &mut out,
+        sheet::run_sheet,
+    )
 }

@@ -9,7 +9,7 @@ use Rattle.wire.specs.Field.{Bytes, be}
 use Rattle.wire.specs.Table.{cat}
 use Rattle.wire.proofs.Laws.Field.{be-bound, bytes_drop}
 use Rattle.call.specs.Answer.{reply_code, reply_kind, reply_word, reply_number}
-use Rattle.call.proofs.Answer.{code-bound, kind-bound}
+use Rattle.call.proofs.Replies.{code-bound, kind-bound}
 use Rattle.line.specs.declared.Style.TheVariants.{Decimal, Hex}
 use Rattle.line.specs.Line.{reply_line, cell_line, clock_line}
 use Rattle.line.proofs.Number.{few, most}

@@ -2,11 +2,12 @@
 use mathlib.Core.List.{List}
 use mathlib.Core.Path.{◌≡◌}
 use Prim.Native.Nat.{ℕ}
-use Rattle.stage.specs.declared.Ran.{Ran}
+use Rattle.std.specs.Prelude.{Result}
+use Rattle.stage.specs.declared.TooShort.{TooShort}
 use Rattle.stage.proofs.Unique.{printed-unique}
 use Rattle.sheet.specs.Output.{output}
 use Rattle.sheet.specs.Whole.{most_output, SheetRun}
 
-pub run-sheet-unique : (s a out : List ℕ) (r₁ r₂ : Ran) (a₁ a₂ t₁ t₂ : List ℕ) → SheetRun s a out r₁ a₁ t₁ → SheetRun s a out r₂ a₂ t₂
+pub run-sheet-unique : (s a out : List ℕ) (r₁ r₂ : Result ℕ TooShort) (a₁ a₂ t₁ t₂ : List ℕ) → SheetRun s a out r₁ a₁ t₁ → SheetRun s a out r₂ a₂ t₂
     → (r₁ ≡ r₂) × (a₁ ≡ a₂) × (t₁ ≡ t₂)
 run-sheet-unique s a out = printed-unique most_output (output s) s a out

@@ -1,10 +1,11 @@
 -- The lines of a good sheet's run all fit.
+use mathlib.Core.Bool.{true, false}
 use mathlib.Core.List.{List, [], ◌++◌}
 use mathlib.Core.Path.{◌≡◌, ap, ◌∙◌}
-use Prim.Native.Nat.{ℕ, ◌+◌, ◌-◌, ◌≤◌}
+use Prim.Native.Nat.{ℕ, ◌+◌, ◌≤◌}
 use native.Mathlib.Omega.{arith}
 use borrow.Author.Tests.{le-leb}
-use lib.ListN.{length, take, drop, length-append}
+use lib.ListN.{length, length-append}
 use Rattle.wire.specs.Table.{cat}
 use Rattle.line.specs.Gather.{Gathered, gathered, added, added_all, Leaves}
 use Rattle.line.specs.Line.{clock_line}
@@ -12,16 +13,13 @@ use Rattle.line.proofs.Gather.{front, front-nil, front-added, front-all}
 use Rattle.rules.specs.Model.{controller, cell_offset}
 use Rattle.rules.specs.Layout.{count_in, clock_in}
 use Rattle.area.proofs.Good.{good_of}
-use Rattle.apart.specs.Apart.{steps}
-use Rattle.stage.specs.declared.Ran.TheVariants.{Written}
+use Rattle.apart.specs.Apart.{steps, good_sheet}
 use Rattle.stage.specs.Calls.{step_count, end_area}
 use Rattle.stage.specs.First.{first_area, bad_sheet}
 use Rattle.stage.proofs.First.{Kept}
-use Rattle.stage.proofs.Ready.{ReadySheet, BadSheet}
-use Rattle.stage.proofs.Printing.{good-run}
+use Rattle.stage.proofs.SetUp.{good-steps}
 use Rattle.sheet.specs.Output.{step_line, line_in_area, printed, output}
 use Rattle.sheet.specs.Parts.{steps_added, state_added, StepsRun}
-use Rattle.sheet.specs.Whole.{most_output, SheetRun}
 use Rattle.sheet.proofs.Short.{printed-short}
 
 -- all lines of a run, put at the front of a buffer that has room for them
@@ -46,18 +44,17 @@ all_lines a l out few kept room =
     ∙ ap (λ (g : Gathered). added g z) two
     ∙ front-added out (x ++ y) z (rw (length-append, length-append) (omega arith)))
 
--- what a bad sheet prints
-pub bad-output : (s a : List ℕ) {b : List ℕ} → BadSheet s a b → output s ≡ bad_sheet
-unfolding output
-bad-output s a told = rw told.bad
-
-module _ (s a out : List ℕ) where
-  -- a good sheet, run on the front of the area
-  pub ran_on : {n first end r : ℕ} {b c t : List ℕ} → 80795 ≤ length out → ReadySheet s a n first end b → length c ≡ length (take n b)
-      → StepsRun (take (end - first) (drop first s)) (take n b) out r c t → SheetRun s a out (Written r) (c ++ drop n b) t
+module _ (s : List ℕ) where
+  -- what a bad sheet prints
+  pub bad-output : good_sheet s ≡ false → output s ≡ bad_sheet
   unfolding output
-  ran_on {r = r} {c = c} {t} g told long run =
-      let last : c ≡ end_area (first_area s) (steps s) = rw (told.laid, told.steps_there) at run.area in
-      let lines : Leaves (state_added c (steps_added (first_area s) (steps s) (gathered 0 out))) r t = rw (told.laid, told.steps_there) at run.lines in
-      let all = all_lines (first_area s) (steps s) out told.few (told.kept (step_count (steps s))) g in
-      good-run most_output (output s) s a out g told long last (rw (told.right, ← all, ← last) lines)
+  bad-output bad = rw bad
+
+  -- .. and the steps of a good one, run on its own area
+  pub ran_on : {r : ℕ} {out c t : List ℕ} → good_sheet s ≡ true → 80795 ≤ length out → StepsRun (steps s) (first_area s) out r c t
+      → (c ≡ end_area (first_area s) (steps s)) × Leaves (front out (output s)) r t
+  unfolding output
+  ran_on {out = out} right room run =
+      let good = good-steps s right in
+      let all = all_lines (first_area s) (steps s) out good.few (good.kept (step_count (steps s))) room in
+      (run.area, rw (right, ← all, ← run.area) run.lines)

@@ -1,8 +1,7 @@
 -- What a sheet's run prints: lay out, make the steps in order, print.
 use Rattle.std.specs.Prelude.{cond, List, ◌++◌, ℕ, ◌+◌, drop}
 use Rattle.wire.specs.Table.{cat}
-use Rattle.call.specs.declared.Reply.{Reply}
-use Rattle.call.specs.Answer.{reply_code, reply_kind, reply_word}
+use Rattle.call.specs.Answer.{Reply, reply_code, reply_kind, reply_word}
 use Rattle.rules.specs.Model.{controller, cell_offset}
 use Rattle.rules.specs.Layout.{cell_of, count_in, clock_in}
 use Rattle.rules.specs.Area.{step_on_bytes}

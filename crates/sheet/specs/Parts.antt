@@ -1,6 +1,7 @@
 -- What the parts of a run leave in a lent area and in a lent buffer, for any bytes: a line that does not fit is left out.
 use Rattle.std.specs.Prelude.{cond, List, ◌≡◌, ℕ, leb, length}
-use Rattle.line.specs.Gather.{Gathered, gathered, added, added_all, Leaves}
+use Rattle.line.specs.declared.Out.{Out}
+use Rattle.line.specs.Gather.{Gathered, gathered, added, added_all, Leaves, written, Writes}
 use Rattle.line.specs.Line.{clock_line}
 use Rattle.rules.specs.Model.{controller, cell_offset}
 use Rattle.rules.specs.Layout.{count_in, clock_in}
@@ -18,10 +19,10 @@ state_added a g =
     (added (added_all (count_in a) (line_in_area a) g) (clock_line (clock_in controller a)))
     g
 
--- the steps `l` made on an area `a`, their lines put into `out`
-pub record StepsMade (l a out : List ℕ) (r : ℕ) (b t : List ℕ) : Type 0 where
+-- the steps `l` made on an area `a`, their lines written behind what was written before
+pub record StepsMade (l a : List ℕ) (before : Out) (b : List ℕ) (after : Out) : Type 0 where
   pub area : b ≡ end_area a l
-  pub lines : Leaves (steps_added a l (gathered 0 out)) r t
+  pub lines : Writes before (steps_added a l (written before)) after
 
 -- the steps `l` made on an area `a`, and all lines put into `out`
 pub record StepsRun (l a out : List ℕ) (r : ℕ) (b t : List ℕ) : Type 0 where

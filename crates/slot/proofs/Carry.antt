@@ -1,26 +1,22 @@
 -- An entry put into a write log by carrying: up to place i the log is done, and what is carried is still to be put into the rest of it, which ascends.
-use mathlib.Core.Bool.{Bool, true, false, cond}
+use mathlib.Core.Bool.{true}
 use mathlib.Core.List.{List, [], ◌∷◌, ◌++◌, append_assoc}
 use mathlib.Core.Path.{◌≡◌, refl, sym, ap, ◌∙◌}
 use Prim.Native.Nat.{ℕ, suc, ◌+◌, ◌-◌, ◌<◌, ◌≤◌}
-use native.Mathlib.Nat.{add-zero}
 use native.Mathlib.Numerals.{add-one}
 use native.Mathlib.Omega.{arith}
-use lib.Dec.{eqb, ltb}
-use lib.ListN.{length, get_or, set, take, drop, replicate, length-set, length-append, length-take, length-drop, drop_of_length-le}
-use lib.Seq.{drop-drop, drop-cons, get_or-take, get_or-drop, length-take-le, take-suc-set, drop-set-lt, set_split, drop-append-le}
-use borrow.Author.Tests.{le-ltb, eq-eqb, ne_eqb}
+use borrow.Author.Tests.{lt-ltb, le-ltb, eq-eqb, ne_eqb}
+use lib.Dec.{ltb}
+use lib.ListN.{length, get_or, set, take, drop, replicate, take-append-drop, length-append, length-take, drop_of_length-le}
+use lib.Seq.{drop_at, length-take-le, drop-cons, take-suc-set, drop-set-lt, set_split, take_all}
 use Rattle.slot.specs.Layout.{write_capacity, no_write}
 use Rattle.slot.specs.Logic.{all, pairwise}
-use Rattle.slot.specs.Logs.{write_log, padded_writes, put_write}
-use Rattle.slot.specs.Operations.{with_writes, Writable, written, lower_of, higher_of}
+use Rattle.slot.specs.Logs.{Ascending, write_log, padded_writes, put_write}
+use Rattle.slot.specs.Operations.{with_writes, Writable, written}
 use Rattle.slot.specs.declared.SlotRecord.{SlotRecord}
 use Rattle.slot.specs.declared.WriteEntry.{WriteEntry}
-use Rattle.slot.proofs.Logic.{and_left, and_right}
-use Rattle.slot.proofs.Padding.{length-padded, padded-drop}
-
-abbrev ascending : List WriteEntry → Bool
-ascending = pairwise (λ (x y : WriteEntry). ltb x.cell y.cell)
+use Rattle.slot.proofs.Logic.{and_left, pairwise_drop}
+use Rattle.slot.proofs.Padding.{length-padded, padded-next}
 
 -- an entry below all others comes first
 put-least : (b : WriteEntry) (l : List WriteEntry) → all (λ (y : WriteEntry). ltb b.cell y.cell) l ≡ true → put_write b l ≡ b ∷ l
@@ -28,127 +24,91 @@ unfolding put_write all
 put-least b [] p = refl
 put-least b (x ∷ l) p = rw (and_left _ _ p)
 
--- one place further
-put-carried : (a b : WriteEntry) (l : List WriteEntry) → (a.cell ≡ b.cell → ⊥) → ascending (b ∷ l) ≡ true
-    → put_write a (b ∷ l) ≡ lower_of a b ∷ put_write (higher_of a b) l
-unfolding put_write pairwise
-put-carried a b l apart up = by (ltb a.cell b.cell)
-  where
-    by : (t : Bool)
-        → cond t (a ∷ b ∷ l) (cond (eqb a.cell b.cell) (a ∷ l) (b ∷ put_write a l)) ≡ cond t a b ∷ put_write (cond t b a) l
-    by true = ap (λ (m : List WriteEntry). a ∷ m) (sym (put-least b l (and_left _ _ up)))
-    by false = rw (ne_eqb a.cell b.cell apart)
+-- put before a larger one, which is put into the rest; past a smaller one; in place of the one of its cell
+module _ (a b : WriteEntry) (l : List WriteEntry) where
+  put-before : a.cell < b.cell → Ascending (b ∷ l) → put_write a (b ∷ l) ≡ a ∷ put_write b l
+  unfolding put_write pairwise
+  put-before h up = rw (lt-ltb a.cell b.cell h, put-least b l (and_left _ _ up))
 
--- put in place of an entry of its cell
-put_same : (a b : WriteEntry) (l : List WriteEntry) → a.cell ≡ b.cell → put_write a (b ∷ l) ≡ a ∷ l
-unfolding put_write
-put_same a b l same = rw (le-ltb a.cell b.cell (omega arith), eq-eqb a.cell b.cell same)
+  put-past : b.cell < a.cell → put_write a (b ∷ l) ≡ b ∷ put_write a l
+  unfolding put_write
+  put-past h = rw (le-ltb a.cell b.cell (omega arith), ne_eqb a.cell b.cell (omega arith))
 
-pub record Carried (v : SlotRecord) (e : WriteEntry) (w : SlotRecord) (x : WriteEntry) (i : ℕ) : Type 0 where
-  pub below : i ≤ v.writecount
-  pub sized : length w.writes ≡ write_capacity
-  pub same : w ≡ with_writes v v.writecount w.writes
-  pub put : take i w.writes ++ put_write x (drop i (write_log v)) ≡ put_write e (write_log v)
-  pub left : drop i w.writes ≡ drop i v.writes
-  pub up : ascending (drop i (write_log v)) ≡ true
+  put_same : a.cell ≡ b.cell → put_write a (b ∷ l) ≡ a ∷ l
+  unfolding put_write
+  put_same same = rw (le-ltb a.cell b.cell (omega arith), eq-eqb a.cell b.cell same)
 
-module _ (v : SlotRecord) (e : WriteEntry) (able : Writable v e) where
-  whole : length v.writes ≡ write_capacity
-  whole = ap length able.unused ∙ length-padded no_write (write_log v) write_capacity (rw length-take (omega (arith, able.counted)))
+-- the entry e is put into the log; `now` is what stands in its place
+pub record Carried (e : WriteEntry) (log now : List WriteEntry) (x : WriteEntry) (i : ℕ) : Type 0 where
+  pub put : take i now ++ put_write x (drop i log) ≡ put_write e log
+  pub left : drop i now ≡ drop i log
 
-  length-log : length (write_log v) ≡ v.writecount
-  length-log = length-take-le v.writecount v.writes (omega (arith, whole, able.counted))
+module _ {e : WriteEntry} {log now : List WriteEntry} {x : WriteEntry} {i : ℕ} (k : Carried e log now x i) (sized : length now ≡ length log) where
+  abbrev here : WriteEntry
+  here = get_or now i no_write
 
-  pub carry-start : Carried v e v e 0
-  carry-start = record { below = omega arith; sized = whole; same = refl; put = refl; left = refl; up = able.ascending }
+  abbrev tail : List WriteEntry
+  tail = drop (suc i) log
 
-  module _ (w : SlotRecord) (x : WriteEntry) (i : ℕ) (k : Carried v e w x i) where
-    here : get_or w.writes i no_write ≡ get_or v.writes i no_write
-    here =
-        let at : (l : List WriteEntry) → get_or (drop i l) 0 no_write ≡ get_or l i no_write = λ l. get_or-drop i l 0 no_write ∙ ap (λ (n : ℕ). get_or l n no_write) (add-zero i) in
-        sym (at w.writes) ∙ ap (λ (l : List WriteEntry). get_or l 0 no_write) k.left ∙ at v.writes
+  module _ (inside : i < length log) where
+    rest : drop i log ≡ here ∷ tail
+    rest =
+        let there = drop-cons log i no_write inside in
+        let now-there = drop-cons now i no_write (omega (arith, sized)) in
+        let same = k.left in
+        cc
 
-    rest : i < v.writecount → drop i (write_log v) ≡ get_or w.writes i no_write ∷ drop (suc i) (write_log v)
-    rest h = drop-cons (write_log v) i no_write (rw length-log h) ∙ rw (get_or-take v.writecount v.writes i no_write h, here)
-
-    -- what is left of the array past place i
-    past : drop (suc i) w.writes ≡ drop (suc i) v.writes
+    past : drop (suc i) now ≡ tail
     past =
-        let more : i + 1 ≡ suc i = omega arith in
-        let one : (l : List WriteEntry) → drop 1 (drop i l) ≡ drop (suc i) l = λ l. drop-drop 1 i l ∙ ap (λ (n : ℕ). drop n l) more in
-        sym (one w.writes) ∙ ap (drop 1) k.left ∙ one v.writes
+        let there = drop-cons log i no_write inside in
+        let now-there = drop-cons now i no_write (omega (arith, sized)) in
+        let same = k.left in
+        cc
 
-    pub carry-next : i < v.writecount → (x.cell ≡ (get_or w.writes i no_write).cell → ⊥)
-        → (lo hi : WriteEntry) → lo ≡ lower_of x (get_or w.writes i no_write) → hi ≡ higher_of x (get_or w.writes i no_write)
-        → Carried v e (with_writes w w.writecount (set w.writes i lo)) hi (i + 1)
-    unfolding pairwise
-    carry-next h apart lo hi low high =
-        let inside : i < length w.writes = omega (arith, k.sized, able.counted) in
-        let up : ascending (get_or w.writes i no_write ∷ drop (suc i) (write_log v)) ≡ true = rw (rest h) at k.up in
-        let put : take i w.writes ++ (lo ∷ put_write hi (drop (suc i) (write_log v))) ≡ put_write e (write_log v) =
-        rw (low, high) (ap (λ (m : List WriteEntry). take i w.writes ++ m) (sym (put-carried x (get_or w.writes i no_write) (drop (suc i) (write_log v)) apart up)))
-        ∙ ap (λ (m : List WriteEntry). take i w.writes ++ put_write x m) (sym (rest h)) ∙ k.put in
-        rw (add-one i)
+    -- one place further
+    next : {now′ : List WriteEntry} {x′ lower higher : WriteEntry} → put_write x (here ∷ tail) ≡ lower ∷ put_write higher tail
+        → now′ ≡ set now i lower → x′ ≡ higher → Carried e log now′ x′ (i + 1)
+    next {lower = lower} {higher = higher} step stored held =
+        rw (stored, held, add-one)
         (record {
-          below = h;
-          sized = length-set w.writes i lo ∙ k.sized;
-          same = ap (λ (u : SlotRecord). with_writes u u.writecount (set w.writes i lo)) k.same;
-          put = ap (λ (m : List WriteEntry). m ++ put_write hi (drop (suc i) (write_log v))) (take-suc-set w.writes i lo inside)
-              ∙ append_assoc (take i w.writes) (lo ∷ []) (put_write hi (drop (suc i) (write_log v))) ∙ put;
-          left = drop-set-lt (suc i) w.writes i lo (omega arith) ∙ past;
-          up = and_right _ _ up;
+          put = rw (take-suc-set now i lower (omega (arith, sized)), append_assoc, ← step, ← rest) k.put;
+          left = drop-set-lt (suc i) now i lower (omega arith) ∙ past;
         })
 
-    -- the entry stored at place i, with what is left of the array behind it
-    stored : i < write_capacity → (tail : List WriteEntry) → put_write x (drop i (write_log v)) ≡ x ∷ tail → drop (suc i) v.writes ≡ tail ++ replicate (write_capacity - length (put_write e (write_log v))) no_write
-        → set w.writes i x ≡ padded_writes (put_write e (write_log v))
-    stored inside tail there behind =
-        set_split w.writes i x (rw k.sized inside)
-        ∙ ap (λ (m : List WriteEntry). take i w.writes ++ (x ∷ m)) (past ∙ behind)
-        ∙ sym (append_assoc (take i w.writes) (x ∷ tail) (replicate (write_capacity - length (put_write e (write_log v))) no_write))
-        ∙ ap (λ (m : List WriteEntry). m ++ replicate (write_capacity - length (put_write e (write_log v))) no_write)
-        (ap (λ (m : List WriteEntry). take i w.writes ++ m) (sym there) ∙ k.put)
+    pub carry-before : {now′ : List WriteEntry} {x′ : WriteEntry} → Ascending log → x.cell < here.cell
+        → now′ ≡ set now i x → x′ ≡ here → Carried e log now′ x′ (i + 1)
+    carry-before up h = next (put-before x here tail h (rw rest at (pairwise_drop _ i log up)))
 
-    -- its length
-    size : (tail : List WriteEntry) → put_write x (drop i (write_log v)) ≡ x ∷ tail → length (put_write e (write_log v)) ≡ i + suc (length tail)
-    size tail there =
-        ap length (sym k.put) ∙ length-append (take i w.writes) (put_write x (drop i (write_log v)))
-        ∙ (λ j. length-take-le i w.writes (omega (arith, k.sized, k.below, able.counted)) j + length (there j))
+    pub carry-past : {now′ : List WriteEntry} {x′ : WriteEntry} → here.cell < x.cell → now′ ≡ set now i here → x′ ≡ x → Carried e log now′ x′ (i + 1)
+    carry-past h = next (put-past x here tail h)
 
-    finished : (n : ℕ) → n ≡ length (put_write e (write_log v)) → set w.writes i x ≡ padded_writes (put_write e (write_log v))
-        → with_writes w n (set w.writes i x) ≡ written v e
-    finished n count writes = ap (λ (u : SlotRecord). with_writes u n (set w.writes i x)) k.same ∙ (λ j. with_writes v (count j) (writes j))
+    pub carry_same : x.cell ≡ here.cell → set now i x ≡ put_write e log
+    carry_same q = rw (set_split now i x (omega (arith, sized)), past, ← put_same x here tail q, ← rest) k.put
 
-    counted : w.writecount ≡ v.writecount
-    counted = ap (λ (u : SlotRecord). u.writecount) k.same
+  pub carry-end : length log ≤ i → now ++ (x ∷ []) ≡ put_write e log
+  unfolding put_write
+  carry-end h =
+      let done : take i now ≡ now = take_all i now (omega (arith, sized)) in
+      let none : drop i log ≡ [] = drop_of_length-le log {i = i} h in
+      rw (done, none) at k.put
 
-    pub carry_same : i < v.writecount → x.cell ≡ (get_or w.writes i no_write).cell → with_writes w w.writecount (set w.writes i x) ≡ written v e
-    carry_same h q =
-        let tail = drop (suc i) (write_log v) in
-        let there : put_write x (drop i (write_log v)) ≡ x ∷ tail = ap (put_write x) (rest h) ∙ put_same x (get_or w.writes i no_write) tail q in
-        let as_many : length (put_write e (write_log v)) ≡ length (write_log v) = size tail there ∙ rw length-drop (omega (arith, length-log)) in
-        let behind : drop (suc i) v.writes ≡ tail ++ replicate (write_capacity - length (put_write e (write_log v))) no_write =
-        ap (drop (suc i)) able.unused ∙ drop-append-le (suc i) (write_log v) (replicate (write_capacity - length (write_log v)) no_write) (omega (arith, length-log))
-        ∙ ap (λ (n : ℕ). tail ++ replicate (write_capacity - n) no_write) (sym as_many) in
-        finished w.writecount (omega (arith, counted, as_many, length-log)) (stored (omega (arith, able.counted)) tail there behind)
-
-    -- at the log's end nothing is left to pass
-    module _ (h : v.writecount ≤ i) where
-      at-end : put_write x (drop i (write_log v)) ≡ x ∷ []
-      unfolding put_write
-      at-end = ap (put_write x) (drop_of_length-le (write_log v) {i = i} (omega (arith, length-log)))
-
-      one_more : length (put_write e (write_log v)) ≡ v.writecount + 1
-      one_more = size [] at-end ∙ omega (arith, k.below)
-
-      pub carry-room : v.writecount < write_capacity
-      carry-room = omega (arith, one_more, able.room)
-
-      pub carry-end : with_writes w (w.writecount + 1) (set w.writes i x) ≡ written v e
-      carry-end =
-          let last : suc i ≡ length (write_log v) + 1 = omega (arith, length-log, k.below) in
-          let more : suc (length (write_log v)) ≡ length (put_write e (write_log v)) = omega (arith, one_more, length-log) in
-          let behind : drop (suc i) v.writes ≡ replicate (write_capacity - length (put_write e (write_log v))) no_write =
-          (λ j. drop (last j) (able.unused j)) ∙ padded-drop no_write (write_log v) write_capacity (omega (arith, length-log, carry-room))
-          ∙ ap (λ (n : ℕ). replicate (write_capacity - n) no_write) more in
-          finished (w.writecount + 1) (omega (arith, counted, one_more)) (stored (omega (arith, k.below, carry-room)) [] at-end behind)
+-- the last entry that is carried takes the first unused place
+pub carried-on : {v : SlotRecord} {e : WriteEntry} (now : List WriteEntry) (last : WriteEntry) {count : ℕ} → Writable v e → count ≡ v.writecount
+    → length now ≡ length v.writes → take count now ++ (last ∷ []) ≡ put_write e (take count v.writes) → drop count now ≡ drop count v.writes
+    → with_writes v (v.writecount + 1) (set now count last) ≡ written v e
+carried-on {v} {e} now last {count} able counted sized put same =
+    let front = take count now in
+    let whole : length v.writes ≡ write_capacity = ap length able.unused ∙ length-padded no_write (write_log v) write_capacity (rw length-take (omega (arith, able.counted))) in
+    let full : length front ≡ count = length-take-le count now (omega (arith, able.counted)) in
+    let as_many : length (write_log v) ≡ count = length-take-le v.writecount v.writes (omega (arith, able.counted)) ∙ sym counted in
+    let unused : drop count v.writes ≡ replicate (write_capacity - length front) no_write =
+    ap (drop count) able.unused ∙ drop_at (write_log v) _ count as_many ∙ ap (λ (n : ℕ). replicate (write_capacity - n) no_write) (as_many ∙ sym full) in
+    let padded : now ≡ front ++ replicate (write_capacity - length front) no_write = sym (take-append-drop count now) ∙ ap (λ (l : List WriteEntry). front ++ l) (same ∙ unused) in
+    let result : front ++ (last ∷ []) ≡ put_write e (write_log v) = put ∙ ap (λ (n : ℕ). put_write e (take n v.writes)) counted in
+    let more : length (put_write e (write_log v)) ≡ count + 1 = ap length (sym result) ∙ length-append front (last ∷ []) ∙ omega (arith, full) in
+    let place : count ≡ length front = sym full in
+    let room : length front < write_capacity = omega (arith, able.room) in
+    let writes : set now count last ≡ padded_writes (put_write e (write_log v)) =
+    (λ j. set (padded j) (place j) last) ∙ padded-next no_write front write_capacity last room ∙ ap padded_writes result in
+    let size : v.writecount + 1 ≡ length (put_write e (write_log v)) = omega arith in
+    λ i. with_writes v (size i) (writes i)

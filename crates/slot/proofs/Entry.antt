@@ -8,6 +8,7 @@ use native.Mathlib.Omega.{arith}
 use lib.Dec.{eqb, lit<}
 use lib.ListN.{length, get_or, take, drop}
 use lib.Seq.{get_or-drop}
+use Rattle.std.specs.Int.{from_bool}
 use Rattle.wire.specs.Field.{Bytes, to_be}
 use Rattle.wire.proofs.Laws.Field.{length-to_be, to_be-bytes, be-to_be, to_be-be, bytes-cons}
 use Rattle.slot.specs.Layout.{bit, read_of, read_bytes, read_size, write_of, write_bytes, write_size}
@@ -24,6 +25,11 @@ pub bit-back : (x : ℕ) → x ≤ 1 → bit (eqb x 1) ≡ x
 bit-back zero h = refl
 bit-back (suc zero) h = refl
 bit-back (suc (suc x)) h = absurd (omega arith)
+
+-- it is what std makes of the flag
+pub bit-from : (b : Bool) → from_bool b ≡ bit b
+bit-from true = refl
+bit-from false = refl
 
 -- a flag's byte is a byte
 pub bit_byte : (b : Bool) → bit b < 256

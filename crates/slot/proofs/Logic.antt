@@ -7,6 +7,8 @@ use native.Mathlib.Omega.{arith}
 use native.Mathlib.Nat.{not-suc-le-zero, le_of_suc-le-suc}
 use lib.ListN.{length, get_or, drop}
 use borrow.Author.Count.{below_more}
+use Rattle.std.specs.List.{list_any}
+use Rattle.std.specs.Prelude.{◌||◌}
 use Rattle.slot.specs.Logic.{◌and◌, ◌or◌, every, all, any, pairwise}
 
 pub and_intro : (a b : Bool) → a ≡ true → b ≡ true → (a and b) ≡ true
@@ -154,3 +156,14 @@ module _ {A : Type 0} where
   pairwise_drop R zero l p = p
   pairwise_drop R (suc n) [] p = p
   pairwise_drop R (suc n) (x ∷ l) p = pairwise_drop R n l (and_right _ _ p)
+
+-- `any` is std's
+module _ {A : Type 0} (f : A → Bool) where
+  pub any-listed : (l : List A) → list_any f l ≡ any f l
+  unfolding any ◌or◌
+  any-listed [] = refl
+  any-listed (x ∷ l) = by (f x) (any-listed l)
+    where
+      by : (b : Bool) → list_any f l ≡ any f l → (b || list_any f l) ≡ (b or any f l)
+      by true e = refl
+      by false e = e

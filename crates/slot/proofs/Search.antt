@@ -10,6 +10,9 @@ use native.Mathlib.Omega.{arith}
 use lib.Dec.{eqb}
 use lib.ListN.{length, get_or, take, drop, length-take, drop_of_length-le}
 use lib.Seq.{drop-cons, get_or-take}
+use Rattle.std.specs.List.{find}
+use Rattle.std.specs.Prelude as code
+use Rattle.slot.specs.Operations.{found}
 use Rattle.slot.specs.Logic.{◌or◌, all, any, first, pairwise}
 use Rattle.slot.specs.Logs.{read_entry, write_entry, reads_cell, writes_cell}
 use Rattle.slot.specs.declared.ReadEntry.{ReadEntry}
@@ -58,6 +61,16 @@ module _ {A : Type 0} (f : A → Bool) where
   unfolding all first
   none-where g [] h p = refl
   none-where g (x ∷ l) h p = rw (h x (and_left _ _ p)) (none-where g l h (and_right _ _ p))
+
+  -- the search is std's
+  pub find-listed : (l : List A) → find f l ≡ found (first f l)
+  unfolding first
+  find-listed [] = refl
+  find-listed (x ∷ l) = by (f x) (find-listed l)
+    where
+      by : (b : Bool) → find f l ≡ found (first f l) → cond b (code.Some x) (find f l) ≡ found (cond b (some x) (first f l))
+      by true e = refl
+      by false e = e
 
   -- what is found passes the test
   pub found-passes : (l : List A) (y : A) → first f l ≡ some y → f y ≡ true

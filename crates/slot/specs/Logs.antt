@@ -1,7 +1,7 @@
 -- The logs as lists: what is searched in them and put into them, and how they stand in a record.
-use Rattle.std.specs.Prelude.{Bool, cond, List, [], ◌∷◌, ◌++◌, ℕ, ◌-◌, eqb, ltb, length, take, replicate}
+use Rattle.std.specs.Prelude.{Bool, true, cond, List, [], ◌∷◌, ◌++◌, ◌≡◌, ℕ, ◌-◌, eqb, ltb, length, take, replicate}
 use Rattle.std.proofs.Math.Option.{Option}
-use Rattle.slot.specs.Logic.{◌and◌, any, first}
+use Rattle.slot.specs.Logic.{◌and◌, any, pairwise, first}
 use Rattle.slot.specs.Layout.{read_capacity, write_capacity, no_read, no_write}
 use Rattle.slot.specs.declared.ReadEntry.{ReadEntry}
 use Rattle.slot.specs.declared.WriteEntry.{WriteEntry}
@@ -25,7 +25,11 @@ unfoldable pub writes_cell : List WriteEntry → ℕ → Bool
 unfolding any
 writes_cell writes c = any (λ (e : WriteEntry). eqb e.cell c) writes
 
--- puts or replaces the entry in the write log, which ascends by cell
+-- it ascends by cell
+abbrev pub Ascending : List WriteEntry → Type 0
+Ascending writes = pairwise (λ (e f : WriteEntry). ltb e.cell f.cell) writes ≡ true
+
+-- puts or replaces the entry in the write log, which ascends
 unfoldable pub put_write : WriteEntry → List WriteEntry → List WriteEntry
 put_write e [] = e ∷ []
 put_write e (x ∷ writes) =

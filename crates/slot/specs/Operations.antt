@@ -1,25 +1,24 @@
 -- The operations of a slot's record: each gives the next record, every field of it.
+use Rattle.std.specs.Prelude as code
 use Rattle.std.specs.Prelude.{Bool, true, false, cond, List, [], ◌≡◌, ℕ, ◌+◌, ◌≤◌, eqb, ltb, length, set}
 use Rattle.std.proofs.Math.Option.{Option, none, some}
 use Rattle.slot.specs.Layout.{write_capacity, empty}
-use Rattle.slot.specs.Logic.{pairwise}
-use Rattle.slot.specs.Logs.{write_log, padded_writes, busy_record, put_write}
+use Rattle.slot.specs.Logs.{Ascending, write_log, padded_writes, busy_record, put_write}
 use Rattle.slot.specs.declared.ReadEntry.{ReadEntry}
 use Rattle.slot.specs.declared.WriteEntry.{WriteEntry}
 use Rattle.slot.specs.declared.SlotRecord.{SlotRecord}
-use Rattle.slot.specs.declared.ReadFound.{ReadFound}
-use Rattle.slot.specs.declared.ReadFound.TheVariants as read
-use Rattle.slot.specs.declared.WriteFound.{WriteFound}
-use Rattle.slot.specs.declared.WriteFound.TheVariants as write
 
 -- what a search finds, as the code hands it back
-abbrev pub read_found : Option ReadEntry → ReadFound
-read_found none = read.Nothing
-read_found (some e) = read.Entry e
+module _ {A : Type 0} where
+  abbrev pub found : Option A → code.Option A
+  found none = code.None
+  found (some x) = code.Some x
 
-abbrev pub write_found : Option WriteEntry → WriteFound
-write_found none = write.Nothing
-write_found (some e) = write.Entry e
+abbrev pub read_found : Option ReadEntry → code.Option ReadEntry
+read_found = found
+
+abbrev pub write_found : Option WriteEntry → code.Option WriteEntry
+write_found = found
 
 -- the record with another phase, ignoring flag, taken and commit stamp; with another read log; with another write log
 abbrev pub moved : SlotRecord → ℕ → Bool → ℕ → ℕ → SlotRecord
@@ -84,15 +83,8 @@ written v e = with_writes v (length (put_write e (write_log v))) (padded_writes 
 pub record Writable (v : SlotRecord) (e : WriteEntry) : Type 0 where
   pub counted : v.writecount ≤ write_capacity
   pub unused : v.writes ≡ padded_writes (write_log v)
-  pub ascending : pairwise (λ (x y : WriteEntry). ltb x.cell y.cell) (write_log v) ≡ true
+  pub ascending : Ascending (write_log v)
   pub room : length (put_write e (write_log v)) ≤ write_capacity
-
--- of two entries the one of the lower cell, and the other
-abbrev pub lower_of : WriteEntry → WriteEntry → WriteEntry
-lower_of a b = cond (ltb a.cell b.cell) a b
-
-abbrev pub higher_of : WriteEntry → WriteEntry → WriteEntry
-higher_of a b = cond (ltb a.cell b.cell) b a
 
 -- close: locking
 abbrev pub closed : SlotRecord → SlotRecord

@@ -31,21 +31,8 @@ impl WriteEntry {
     pub const SIZE: usize = 5;
 }
 
-// What a search of the read log finds.
-#[derive(Clone, Copy)]
-pub enum ReadFound {
-    Entry(ReadEntry),
-    Nothing,
-}
-
-// What a search of the write log finds.
-#[derive(Clone, Copy)]
-pub enum WriteFound {
-    Entry(WriteEntry),
-    Nothing,
-}
-
-// What the area keeps of a slot. Entries from a log's count on are zero.
+// What the area keeps of a slot. Entries from a log's count on are zero. A log is an array with its count beside it: fixed memory, no heap. The phase is a byte and no
+// enum, since `packed::fields` hands back the record of any bytes (`slot_of`), also of those that the check refuses.
 #[derive(Clone, Copy)]
 pub struct SlotRecord {
     pub phase: u8,

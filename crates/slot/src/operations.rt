@@ -1,11 +1,9 @@
 // The operations of a slot's record: each takes the record and hands back the next one. What a step asks before is its own.
-ghost use Rattle.std.specs.Prelude.{◌≡◌, ◌<◌};
+ghost use Rattle.std.specs.Prelude.{◌≡◌, ◌<◌, ◌≤◌, ◌++◌, length, take, drop, option_to_list};
 ghost use Rattle.slot.specs.Layout.{read_capacity};
-ghost use Rattle.slot.specs.Logs.{has_mark};
+ghost use Rattle.slot.specs.Logs.{Ascending, put_write, has_mark};
 ghost use Rattle.slot.specs.Operations.{
   Writable,
-  lower_of,
-  higher_of,
   idled,
   begun,
   joined,
@@ -20,19 +18,27 @@ ghost use Rattle.slot.specs.Operations.{
 };
 
 use crate::{ReadEntry, SlotRecord, WriteEntry};
+use std::mem;
 
-// Of two entries the one of the lower cell.
-fn lower(a: WriteEntry, b: WriteEntry) -> WriteEntry
-    ensures { result ≡ lower_of a b }
+// Carries an entry up a write log of `count` entries to its place, and from there on each entry by one. Hands back the last one, which needs a place more, unless
+// the log had an entry of the cell. The count stands beside the array: what a part of a field's array holds once it was lent, as `&mut self.writes[..count]`, no proof
+// could say.
+fn carry(log: &mut [WriteEntry], count: usize, e: WriteEntry) -> Option<WriteEntry>
+    requires { (count ≤ length log.old) × Ascending (take count log.old) }
+    ensures put { take count log.new ++ option_to_list result ≡ put_write e (take count log.old) }
+    ensures rest { drop count log.new ≡ drop count log.old }
 {
-    if a.cell < b.cell { a } else { b }
-}
-
-// The other one.
-fn higher(a: WriteEntry, b: WriteEntry) -> WriteEntry
-    ensures { result ≡ higher_of a b }
-{
-    if a.cell < b.cell { b } else { a }
+    let mut carried = e;
+    for here in &mut log[..count] {
+        if carried.cell == here.cell {
+            *here = carried;
+            return None;
+        }
+        if carried.cell < here.cell {
+            mem::swap(here, &mut carried);
+        }
+    }
+    Some(carried)
 }
 
 impl SlotRecord {
@@ -58,32 +64,24 @@ impl SlotRecord {
         requires { self.readcount < read_capacity }
         ensures { result ≡ joined self e }
     {
-        let at = self.readcount as usize;
+        let at = usize::from(self.readcount);
         self.reads[at] = e;
         self.readcount += 1;
         self
     }
 
-    // write, and update: the entry is carried up the log to its place, and from there on each entry by one
+    // write, and update: the entry is put into the write log, in place of its cell's if it has one. Inlined, so that the record handed in and the one handed back
+    // share their place on the stack.
+    #[inline(always)]
     pub fn written(mut self, e: WriteEntry) -> Self
         requires { Writable self e }
         ensures { result ≡ written self e }
     {
-        let count = self.writecount as usize;
-        let mut carried = e;
-        let mut i = 0;
-        while i < count {
-            let here = self.writes[i];
-            if carried.cell == here.cell {
-                self.writes[i] = carried;
-                return self;
-            }
-            self.writes[i] = lower(carried, here);
-            carried = higher(carried, here);
-            i += 1;
+        let count = usize::from(self.writecount);
+        if let Some(last) = carry(&mut self.writes, count, e) {
+            self.writes[count] = last;
+            self.writecount += 1;
         }
-        self.writes[i] = carried;
-        self.writecount += 1;
         self
     }
 
@@ -134,6 +132,7 @@ impl SlotRecord {
     }
 
     // finish, when the transaction is committed
+    #[tactic(auto, unfolding(crate::specs::Operations::finished))]
     pub fn finished(mut self) -> Self
         ensures { result ≡ finished self }
     {
@@ -145,6 +144,7 @@ impl SlotRecord {
     }
 
     // publish
+    #[tactic(auto, unfolding(crate::specs::Operations::published_one))]
     pub fn published_one(mut self) -> Self
         requires { self.taken < 255 }
         ensures { result ≡ published_one self }
@@ -161,15 +161,7 @@ impl SlotRecord {
     pub fn some_marked(self) -> bool
         ensures { result ≡ has_mark self }
     {
-        let log = self.reads;
-        let count = self.readcount as usize;
-        let mut i = 0;
-        while i < SlotRecord::READS && i < count {
-            if log[i].mark {
-                return true;
-            }
-            i += 1;
-        }
-        false
+        let count = usize::from(self.readcount);
+        self.reads.iter().take(count).any(|e| e.mark)
     }
 }

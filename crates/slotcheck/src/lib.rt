@@ -7,9 +7,9 @@ ghost use Rattle.rules.specs.Model.{controller};
 ghost use Rattle.rules.specs.Layout.{cells_in, slot_place};
 ghost use Rattle.rules.specs.AreaRight.{busy_right};
 ghost use Rattle.bothlogs.specs.BothLogs.{Indexed};
-ghost use Rattle.logcheck.specs.Frame.{Framed};
 ghost use Rattle.slotcheck.specs.SlotParts.{slot_right_in, slots_right, slot_no_update_lost};
 
+use logcheck::frame::{CountedSlot, Frame, SlotBytes};
 use logcheck::{CELL, FLAG_AT, HEADER, PHASE_AT, SLOT, STAMP};
 
 mod numbers;
@@ -27,63 +27,58 @@ fn no_update_lost(t: &[u8]) -> bool
 }
 
 // A slot that is not idle. The unused entries come before the marks: zero, they may be gathered with the others.
-fn busy_right(s: &[u8], n: usize, clock: u64, t: &[u8]) -> bool
-    requires { (Framed n s.now) × (slot_size 8 ≤ length t.now) }
-    ensures { result ≡ busy_right controller (cells_in controller s.now) clock t.now (slot_of 8 t.now) }
+fn busy_right(area: Frame, clock: u64, t: SlotBytes) -> bool
+    ensures { result ≡ busy_right controller (cells_in controller area.entry.bytes.now) clock t.entry.bytes.now (slot_of 8 t.entry.bytes.now) }
 {
     if !numbers::counts_right(t) {
         return false;
     }
-    if !logcheck::logs_right(s, n, t) {
+    let counted = CountedSlot { bytes: t.bytes };
+    if !logcheck::logs_right(area, counted) {
         return false;
     }
     if !numbers::numbers_right(t, clock) {
         return false;
     }
-    if !logcheck::marks::unused_zero(t) {
+    if !logcheck::marks::unused_zero(counted) {
         return false;
     }
-    if !logcheck::marks::marked_right(t) {
+    if !logcheck::marks::marked_right(counted) {
         return false;
     }
-    no_update_lost(t)
+    no_update_lost(t.bytes)
 }
 
-// Phases 0 to 4; an idle slot all zero. `t` are the bytes from the slot on, in an area `s` of `n` cells.
-fn slot_right(s: &[u8], n: usize, clock: u64, t: &[u8]) -> bool
-    requires { (Framed n s.now) × (slot_size 8 ≤ length t.now) }
-    ensures { result ≡ slot_right_in s.now clock t.now }
+// Slot `k`, counted from 0: phases 0 to 4, of a byte that may be any of 256; an idle slot all zero.
+fn slot_right(area: Frame, clock: u64, k: usize) -> bool
+    requires { k < 8 }
+    ensures { result ≡ slot_right_in area.entry.bytes.now clock (slot_place controller area.entry.bytes.now k) }
 {
-    let phase = t[PHASE_AT];
+    let t = slot_place(area, k);
+    let phase = t.bytes[PHASE_AT];
     if 4 < phase {
         return false;
     }
     if phase == 0 {
-        return logcheck::all_zero(t, 0, SLOT);
+        return logcheck::all_zero(&t.bytes[..SLOT]);
     }
-    busy_right(s, n, clock, t)
+    busy_right(area, clock, t)
 }
 
 // The bytes from slot `k` on, counted from 0.
-pub fn slot_place(s: &[u8], n: usize, k: usize) -> &[u8]
-    requires { (Framed n s.now) × (k < 8) }
-    ensures { result.now ≡ slot_place controller s.now k }
+pub fn slot_place(area: Frame, k: usize) -> SlotBytes
+    requires { k < 8 }
+    ensures { result.bytes.now ≡ slot_place controller area.entry.bytes.now k }
 {
-    let at = HEADER + CELL * n + SLOT * k;
-    &s[at..]
+    let at = HEADER + CELL * area.cells + SLOT * k;
+    SlotBytes {
+        bytes: &area.bytes[at..],
+    }
 }
 
 // Every slot.
-pub fn slots_right(s: &[u8], n: usize, clock: u64) -> bool
-    requires { Framed n s.now }
-    ensures { result ≡ slots_right clock s.now }
+pub fn slots_right(area: Frame, clock: u64) -> bool
+    ensures { result ≡ slots_right clock area.entry.bytes.now }
 {
-    let mut k = 0;
-    while k < SLOTS {
-        if !slot_right(s, n, clock, slot_place(s, n, k)) {
-            return false;
-        }
-        k += 1;
-    }
-    true
+    (0..SLOTS).all(|k| slot_right(area, clock, k))
 }

@@ -3,22 +3,19 @@ ghost use Rattle.std.specs.Prelude.{◌≡◌, ◌<◌, get_or};
 ghost use Rattle.wire.specs.Table.{tab};
 ghost use Rattle.slot.specs.Logic.{every};
 ghost use Rattle.rules.specs.LogsRight.{stamps_apart};
-ghost use Rattle.logcheck.specs.Frame.{Framed};
 ghost use Rattle.slotcheck.specs.SlotParts.{stamp_in, stamps_right};
 
-use crate::SLOTS;
-use logcheck::{CELL, COMMIT_AT, HEADER, SLOT, STAMP};
+use crate::{SLOTS, slot_place};
+use logcheck::frame::Frame;
+use logcheck::{COMMIT_AT, STAMP};
 
 // The slots' commit stamps.
-fn stamps_of(s: &[u8], n: usize) -> [u64; SLOTS]
-    requires { Framed n s.now }
-    ensures { result ≡ tab 8 (stamp_in n s.now) }
+fn stamps_of(area: Frame) -> [u64; SLOTS]
+    ensures { result ≡ tab 8 (stamp_in area.entry.cells area.entry.bytes.now) }
 {
-    let mut stamps = [0u64; SLOTS];
-    let mut k = 0;
-    while k < SLOTS {
-        stamps[k] = wire::get(s, HEADER + CELL * n + SLOT * k + COMMIT_AT, STAMP);
-        k += 1;
+    let mut stamps = [0; SLOTS];
+    for (k, stamp) in stamps.iter_mut().enumerate() {
+        *stamp = wire::get(slot_place(area, k).bytes, COMMIT_AT, STAMP);
     }
     stamps
 }
@@ -35,28 +32,13 @@ fn stamp_apart(stamps: [u64; SLOTS], j: usize) -> bool
     requires { j < 8 }
     ensures { result ≡ every j (λ i. stamps_apart (get_or stamps i 0) (get_or stamps j 0)) }
 {
-    let mut i = 0;
-    while i < j {
-        if !apart(stamps[i], stamps[j]) {
-            return false;
-        }
-        i += 1;
-    }
-    true
+    stamps[..j].iter().all(|k| apart(*k, stamps[j]))
 }
 
 // Commit stamps apart.
-pub fn stamps_apart(s: &[u8], n: usize) -> bool
-    requires { Framed n s.now }
-    ensures { result ≡ stamps_right s.now }
+pub fn stamps_apart(area: Frame) -> bool
+    ensures { result ≡ stamps_right area.entry.bytes.now }
 {
-    let stamps = stamps_of(s, n);
-    let mut j = 0;
-    while j < SLOTS {
-        if !stamp_apart(stamps, j) {
-            return false;
-        }
-        j += 1;
-    }
-    true
+    let stamps = stamps_of(area);
+    (0..SLOTS).all(|j| stamp_apart(stamps, j))
 }

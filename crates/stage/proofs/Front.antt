@@ -1,17 +1,17 @@
 -- The front of a lent area or buffer: a part that comes back to it, and what is printed there.
 use mathlib.Core.Bool.{Bool, true, false, cond}
 use mathlib.Core.List.{List, [], ◌++◌}
-use mathlib.Core.Path.{◌≡◌, sym, ap, ◌∙◌}
+use mathlib.Core.Path.{◌≡◌, ap, ◌∙◌}
 use Prim.Native.Nat.{ℕ, ◌≤◌}
 use native.Mathlib.Nat.{zero-add}
 use native.Mathlib.Omega.{arith}
 use lib.ListN.{length, drop, length-append}
+use Rattle.std.specs.Prelude.{Ok, Err}
 use Rattle.wire.specs.Part.{splice}
 use Rattle.line.specs.Gather.{Gathered, gathered, added, Leaves}
 use Rattle.line.proofs.Gather.{front, front-nil, front-added}
-use Rattle.stage.specs.declared.Ran.{Ran}
-use Rattle.stage.specs.declared.Ran.TheVariants.{Written, Short}
 use Rattle.stage.specs.First.{bad_sheet}
+use Rattle.stage.specs.Printed.{too_short}
 
 -- a part that comes back to the front of the area that it was lent from
 pub front-back : (n : ℕ) (a b : List ℕ) → length b ≡ n → b ++ drop n a ≡ splice a 0 b
@@ -30,12 +30,9 @@ unfolding splice
 part-within a p = simp length-append (omega arith)
 
 -- what a run says it has written stands in the buffer: a program may write that much of it out
-pub within : (out text : List ℕ) {t : List ℕ} {r : Ran} {end : ℕ} (room : Bool) → r ≡ cond room (Written (length text)) Short → t ≡ cond room (splice out 0 text) out → r ≡ Written end
+pub within : (out text : List ℕ) {t : List ℕ} {end : ℕ} (room : Bool) → Ok end ≡ cond room (Ok (length text)) (Err too_short) → t ≡ cond room (splice out 0 text) out
     → end ≤ length t
-within out text {end = end} true p q e =
-    let written : Written end ≡ Written (length text) = sym e ∙ p in
+within out text {end = end} true p q =
     let same : end ≡ length text = cc in
     rw (same, q) (part-within out text)
-within out text {end = end} false p q e =
-    let no : Written end ≡ Short = sym e ∙ p in
-    let z : ◌≡◌ {A = ℕ} 0 1 = cc in absurd (omega arith)
+within out text {end = end} false p q = cc

@@ -3,6 +3,7 @@ pub mod States
 pub mod First
 pub mod Front
 pub mod Ways
-pub mod Ready
+pub mod SetUp
 pub mod Printing
 pub mod Unique
+pub mod RunBy

@@ -7,6 +7,8 @@ use native.Mathlib.Omega.{arith}
 use borrow.Author.Tests.{le-leb, lt-leb}
 use lib.ListN.{length, take, drop}
 use lib.Seq.{length-take-le}
+use Rattle.std.specs.Prelude.{Result, Ok, Err, IsErrAnd}
+use Rattle.std.proofs.lemmas.Result.{err_from_is_err_and}
 use Rattle.wire.specs.Part.{splice}
 use Rattle.slot.proofs.Logic.{and_intro}
 use Rattle.rules.specs.Model.{controller, area_length}
@@ -14,14 +16,21 @@ use Rattle.fresh.specs.LaidOut.{LaidOut}
 use Rattle.apart.specs.Apart.{described_length, good_sheet}
 use Rattle.apart.proofs.Tests.{fails, goes_on}
 use Rattle.apart.proofs.Apart.{GoodParts}
-use Rattle.stage.specs.declared.Stage.TheVariants.{Ready, Bad, Short}
+use Rattle.stage.specs.declared.Unready.TheVariants.{Bad, Short}
 use Rattle.stage.specs.First.{first_area, most_area}
 use Rattle.stage.specs.SetUp.{staged, area_fits, SetUp}
 use Rattle.stage.proofs.First.{same_first}
 use Rattle.stage.proofs.Front.{front-back}
 
+-- the refusal that a `?` hands on
+pub handed_on : {T U E : Type 0} (r : Result T E) {x e : E} → IsErrAnd r (λ y. y ≡ x) → ◌≡◌ {A = Result U E} (Err x) (Err e) → r ≡ Err e
+handed_on r {x} {e} told why =
+    let got = err_from_is_err_and r told in
+    let same : x ≡ e = cc in
+    got.1 ∙ ap Err (got.2 ∙ same)
+
 module _ (s a : List ℕ) where
-  pub short-area : length a < 2486 → SetUp s a Short a
+  pub short-area : length a < 2486 → SetUp s a (Err Short) a
   short-area h =
       let room = lt-leb most_area (length a) h in
       let none = fails (area_fits a) (good_sheet s) room in
@@ -31,13 +40,13 @@ module _ (s a : List ℕ) where
     room : area_fits a ≡ true
     room = le-leb most_area (length a) h
 
-    pub bad-sheet : good_sheet s ≡ false → SetUp s a Bad a
+    pub bad-sheet : good_sheet s ≡ false → SetUp s a (Err Bad) a
     unfolding staged
     bad-sheet bad = let none = goes_on (area_fits a) (good_sheet s) room bad in record { answer = rw (room, bad); bytes = rw none }
 
     pub good-sheet : {cells first count r : ℕ} {b : List ℕ} → GoodParts s cells first count → length b ≡ length (take (14 + 14 * cells + 1576) a)
         → LaidOut (take (14 + 14 * cells + 1576) a) (take (3 + 5 * cells - 3) (drop 3 s)) r b
-        → SetUp s a (Ready (14 + 14 * cells + 1576) first (first + 8 * count)) (b ++ drop (14 + 14 * cells + 1576) a)
+        → SetUp s a (Ok (record { length = 14 + 14 * cells + 1576; first = first; end = first + 8 * count })) (b ++ drop (14 + 14 * cells + 1576) a)
     unfolding staged
     good-sheet {cells} {first} {count} {r} {b} good long laid =
         let size = 14 + 14 * cells + 1576 in
@@ -46,6 +55,6 @@ module _ (s a : List ℕ) where
         let first-area : b ≡ first_area s = (rw n at laid.bytes) ∙ same_first good (take size a) part in
         let all = and_intro (area_fits a) (good_sheet s) room good.right in
         record {
-          answer = rw (room, good.right) (λ i. Ready (area_length controller (good.count i)) (good.place i) (good.place i + good.stepped i));
+          answer = rw (room, good.right) (λ i. Ok (record { length = area_length controller (good.count i); first = good.place i; end = good.place i + good.stepped i }));
           bytes = rw all (front-back size a b (long ∙ part ∙ omega arith) ∙ ap (splice a 0) first-area);
         }

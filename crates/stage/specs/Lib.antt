@@ -3,4 +3,5 @@ pub mod First
 pub mod SetUp
 pub mod States
 pub mod Printed
+pub mod RunBy
 pub mod SheetS

@@ -1,4 +1,4 @@
-// What the programs that run a step sheet share: its area laid out, and one step made from its 8 bytes. Any bytes are taken, and any areas.
+// What the programs that run a step sheet share: its area laid out, one step made from its 8 bytes, what a bad sheet prints, and the run itself. Any bytes are taken, and any areas.
 #![tactic(auto)]
 
 ghost use Rattle.line.specs.Gather.{Leaves, gathered, added};
@@ -6,25 +6,25 @@ ghost use Rattle.crocktendril.specs.Contract.{Stepped};
 ghost use Rattle.stage.specs.Calls.{call_of};
 ghost use Rattle.stage.specs.First.{bad_sheet};
 ghost use Rattle.stage.specs.SetUp.{SetUp};
+ghost use Rattle.stage.specs.RunBy.{RunBy};
 
-use apart::Sheet;
 use area::{CELL, HEADER};
 
-// How many bytes of output were written, or that the area or the buffer is too short.
+// The area or the buffer is too short.
 #[derive(Clone, Copy)]
-pub enum Ran {
-    Written(usize),
-    Short,
+pub struct TooShort;
+
+// A good sheet's area is laid out in the first `length` bytes, and its steps are the bytes `first` to `end`.
+#[derive(Clone, Copy)]
+pub struct Ready {
+    pub length: usize,
+    pub first: usize,
+    pub end: usize,
 }
 
-// A sheet's area is laid out in the first `length` bytes, and its steps are the bytes `first` to `end`; or the sheet is bad; or the area is too short.
+// The sheet is bad, or the area too short.
 #[derive(Clone, Copy)]
-pub enum Stage {
-    Ready {
-        length: usize,
-        first: usize,
-        end: usize,
-    },
+pub enum Unready {
     Bad,
     Short,
 }
@@ -54,31 +54,51 @@ pub fn make_step(area: &mut [u8], step: &[u8]) -> u64
 }
 
 // Takes a sheet apart and lays its area out at the front of `area`. The lay-out's answer is not looked at: it is 0 for the parts of a good sheet.
-pub fn set_up(sheet: &[u8], area: &mut [u8]) -> Stage
+pub fn set_up(sheet: &[u8], area: &mut [u8]) -> Result<Ready, Unready>
     ensures { SetUp sheet.now area.old result area.new }
 {
     if area.len() < MOST_AREA {
-        return Stage::Short;
+        return Err(Unready::Short);
     }
-    let apart = apart::take_apart(sheet);
-    let Sheet::Good {
-        cells,
-        first,
-        steps,
-    } = apart
-    else {
-        return Stage::Bad;
-    };
-    let described = apart::DESCRIPTIONS + fresh::DESCRIPTION * cells;
-    let length = HEADER + CELL * cells + ALL_SLOTS;
-    let end = first + apart::STEP * steps;
+    let parts = apart::take_apart(sheet).ok_or(Unready::Bad)?;
+    let described = apart::DESCRIPTIONS + fresh::DESCRIPTION * parts.cells;
+    let length = HEADER + CELL * parts.cells + ALL_SLOTS;
+    let end = parts.first + apart::STEP * parts.steps;
     crocktendril::crocktendril_lay_out(&mut area[..length], &sheet[apart::DESCRIPTIONS..described]);
-    Stage::Ready { length, first, end }
+    Ok(Ready {
+        length,
+        first: parts.first,
+        end,
+    })
 }
 
 // What a bad sheet prints, at the front of `out`. Answers where it ends.
 pub fn bad_sheet(out: &mut [u8]) -> usize
     ensures { Leaves (added (gathered 0 out.old) bad_sheet) result out.new }
 {
-    line::put_bytes(out, 0, b"bad sheet\n").end_or(0)
+    line::put_bytes(out, 0, b"bad sheet\n").unwrap_or(0)
+}
+
+// Runs a sheet with room for `most` bytes of output. Of a good sheet `make` makes the steps on the area that is laid out, puts what there is to print at
+// the front of the buffer, and answers where it ends. With too little room nothing is done.
+pub fn run<F: FnOnce(&[u8], &mut [u8], &mut [u8]) -> usize>(
+    sheet: &[u8],
+    area: &mut [u8],
+    out: &mut [u8],
+    most: usize,
+    make: F,
+) -> Result<usize, TooShort>
+    requires { F.IsAlwaysCallable make }
+    ensures { RunBy F.FnOnce most make sheet.now area.old out.old result area.new out.new }
+{
+    if out.len() < most {
+        return Err(TooShort);
+    }
+    match set_up(sheet, area) {
+        Ok(Ready { length, first, end }) => {
+            Ok(make(&sheet[first..end], &mut area[..length], out))
+        }
+        Err(Unready::Bad) => Ok(bad_sheet(out)),
+        Err(Unready::Short) => Err(TooShort),
+    }
 }

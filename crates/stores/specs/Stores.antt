@@ -1,15 +1,19 @@
 -- What each store leaves of an area `l`: slot i's record v stored, but for what stays of its logs, and with it what the step changed besides.
-use Rattle.std.specs.Prelude.{cond, List, ℕ, eqb, get_or, set}
+use Rattle.std.specs.Prelude.{cond, List, ◌≡◌, ℕ, eqb, get_or, set}
 use Rattle.wire.specs.Part.{splice}
 use Rattle.slot.specs.declared.SlotRecord.{SlotRecord}
 use Rattle.slot.specs.Fields.{turned_to, with_last, with_reads_of, with_writes_of}
 use Rattle.rules.specs.Model.{controller}
 use Rattle.rules.specs.State.{State, turn}
 use Rattle.rules.specs.Cells.{free_all}
-use Rattle.rules.specs.Layout.{cell_bytes, view, pack}
+use Rattle.rules.specs.Layout.{cell_bytes, lay, view, pack}
 use Rattle.rules.specs.declared.Cell.{Cell}
 use Rattle.area.specs.Good.{state_in}
 use Rattle.area.specs.InPlace.{clock_now, record_at}
+
+-- a record in canonical form: the one that its slot lays down
+abbrev pub Canonical : SlotRecord → Type 0
+Canonical w = lay (view w) ≡ w
 
 -- slot i's record w stored, with a clock and cells
 abbrev pub stored : List ℕ → ℕ → ℕ → List Cell → SlotRecord → List ℕ

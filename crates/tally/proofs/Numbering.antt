@@ -1,8 +1,8 @@
 -- The numbers after a step: the ways out of `after`.
 use mathlib.Core.Bool.{Bool, false, not}
 use mathlib.Core.Path.{◌≡◌}
-use Prim.Native.Nat.{ℕ, ◌+◌, ◌-◌, ◌^◌, ◌<◌, ◌≤◌}
-use borrow.Author.Tests.{eq-eqb, ne_eqb, lt-ltb, le-ltb}
+use Prim.Native.Nat.{ℕ, ◌+◌, ◌-◌, ◌^◌, ◌<◌}
+use borrow.Author.Tests.{eq-eqb, ne_eqb, lt-ltb}
 use lib.Dec.{eqb, ltb}
 use lib.ListN.{set}
 use Rattle.slot.specs.Logic.{◌and◌}
@@ -27,14 +27,6 @@ module _ (v : Numbers) (step slot code : ℕ) where
   pub refused-begin : (code ≡ 0 → ⊥) → v ≡ numbers_after v step slot code
   unfolding counts ◌and◌
   refused-begin n = same (simp (ne_eqb code 0 n, and-false))
-
-  pub no_place : 9 ≤ slot → v ≡ numbers_after v step slot code
-  unfolding counts ◌and◌
-  no_place n = same (simp (le-ltb slot 9 n, and-false))
-
-  pub none_left : v.begun ≡ 18446744073709551615 → v ≡ numbers_after v step slot code
-  unfolding counts ◌and◌
-  none_left n = same (simp (eq-eqb v.begun 18446744073709551615 n, and-false))
 
   pub one_more : step ≡ 1 → code ≡ 0 → slot < 9 → (v.begun ≡ 18446744073709551615 → ⊥)
       → record { begun = v.begun + 1; last = set v.last slot (v.begun + 1) } ≡ numbers_after v step slot code

@@ -1,23 +1,13 @@
 -- What is looked at before a step, for any bytes: whether a log of the slot has the cell, and the slot's record.
-use Rattle.std.specs.Prelude.{Bool, true, false, cond, List, ℕ, pred, ◌+◌, leb, length, drop}
+use Rattle.std.specs.Prelude.{false, cond, List, ℕ, pred, ◌+◌, leb, length, drop}
 use Rattle.slot.specs.Logic.{◌or◌}
 use Rattle.slot.specs.Layout.{empty, slot_of, slot_size}
 use Rattle.slot.specs.Logs.{read_log, write_log, reads_cell, writes_cell}
 use Rattle.slot.specs.Fields.{without_reads}
-use Rattle.slot.specs.declared.ReadFound.{ReadFound}
-use Rattle.slot.specs.declared.ReadFound.TheVariants as read
-use Rattle.slot.specs.declared.WriteFound.{WriteFound}
-use Rattle.slot.specs.declared.WriteFound.TheVariants as write
 use Rattle.slot.specs.declared.SlotRecord.{SlotRecord}
 use Rattle.rules.specs.Model.{controller, slot_offset}
 use Rattle.rules.specs.Layout.{count_in}
 use Rattle.telling.specs.declared.Before.{Before}
-
--- a search has found an entry
-abbrev pub in_either : WriteFound → ReadFound → Bool
-in_either (write.Entry e) r = true
-in_either write.Nothing (read.Entry e) = true
-in_either write.Nothing read.Nothing = false
 
 -- what an effect tells of a slot's record before the step
 abbrev pub before_of : SlotRecord → ℕ → Before

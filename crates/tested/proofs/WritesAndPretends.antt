@@ -10,8 +10,9 @@ use lib.Seq.{get_or-set_same, get_or-set_other}
 use borrow.Author.Tests.{eq-eqb, ltb-true, leb-true}
 use Rattle.value.proofs.RoundTrip.{legal-bound}
 use Rattle.call.specs.declared.Step.{Step}
-use Rattle.call.specs.declared.Reply.{Reply}
-use Rattle.call.specs.Answer.{reply_code, reply_number}
+use Rattle.call.specs.declared.Answer.{Answer}
+use Rattle.call.specs.declared.Refusal.{Refusal}
+use Rattle.call.specs.Answer.{refusal_code, reply_number}
 use Rattle.slot.specs.declared.WriteEntry.{WriteEntry}
 use Rattle.slot.specs.Layout.{no_write}
 use Rattle.slot.specs.Logic.{◌and◌, all, pairwise}
@@ -100,7 +101,7 @@ module _ (l : List ℕ) (call : Call) (asked : Askable l call) where
       (λ h. rw (get_or-eq_default S.cells no_cell {n = c} h) (record { word_fits = omega arith; stamp_fits = omega arith }))
 
   -- the clock and the slots after a step of the rules, with cells that fit
-  refit : {s : Step} {r : Reply} {T : State} → pred call.slot < controller.slots → Move controller S i s r T
+  refit : {s : Step} {r : Answer} {T : State} → pred call.slot < controller.slots → Move controller S i s r T
       → (cells : List Cell) → length cells ≡ length T.cells → Fit cells → Sized controller (record { clock = T.clock; cells = cells; slots = T.slots })
   refit {T = T} there m cells long fits =
       let right-after = right-back controller T (move-right controller S (right_of controller S right) i there m) in
@@ -117,9 +118,9 @@ module _ (l : List ℕ) (call : Call) (asked : Askable l call) where
   Written o =
       reply_number (answered controller l o).reply ≡ 0 → all_have_words (state_of controller (answered controller l o).bytes) (writes_of (slot_at S i)) ≡ true
 
-  not-refused : (r : Reply) → Bare r → Written (refused r)
+  not-refused : (r : Refusal) → Bare r → Written (refused r)
   unfolding reply_number
-  not-refused r k e = absurd (omega (arith, leb→le 2 (reply_code r) k.0.0))
+  not-refused r k e = absurd (omega (arith, leb→le 2 (refusal_code r) k.0.0))
 
   finish-writes : Written (inside_slots controller call.slot (finish_writes S i))
   unfolding finish_writes reply_number slot_right commit_between writes_right

@@ -10,10 +10,11 @@ use lib.Dec.{eqb, ltb, lit<, leb→le}
 use lib.ListN.{length, get_or}
 use lib.Seq.{get_or-set_same}
 use borrow.Author.Tests.{ltb-true}
-use Rattle.call.specs.declared.Reply.{Reply}
-use Rattle.call.specs.declared.Reply.TheVariants.{NotAllowed, LastStamp}
+use Rattle.call.specs.declared.Answer.{Answer}
+use Rattle.call.specs.declared.Refusal.{Refusal}
+use Rattle.call.specs.Answer.{Reply, refusal_code, reply_code, reply_number}
+use Rattle.call.specs.declared.Refusal.TheVariants.{NotAllowed, LastStamp}
 use Rattle.call.specs.Decode.{decoded}
-use Rattle.call.specs.Answer.{reply_code, reply_number}
 use Rattle.slot.specs.declared.WriteEntry.{WriteEntry}
 use Rattle.slot.specs.Layout.{no_write}
 use Rattle.slot.specs.Logic.{◌and◌, all}
@@ -163,8 +164,8 @@ no_code : (r : Reply) → reply_number r / 2 ^ 40 ≡ 0 → reply_code r ≡ 0
 unfolding reply_number
 no_code r e = omega arith
 
-not-refused : {P : Type 0} (r : Reply) → Bare r → reply_code r ≡ 0 → P
-not-refused r k e = absurd (omega (arith, leb→le 2 (reply_code r) k.0.0))
+not-refused : {P : Type 0} (r : Refusal) → Bare r → refusal_code r ≡ 0 → P
+not-refused r k e = absurd (omega (arith, leb→le 2 (refusal_code r) k.0.0))
 
 -- a step that is accepted gives the right stamps: its row's tests are passed one by one
 module _ (S : State) (right : state_right controller S ≡ true) (slot : ℕ) where
@@ -178,11 +179,11 @@ module _ (S : State) (right : state_right controller S ≡ true) (slot : ℕ) wh
   abbrev Published : Outcome → Type 0
   Published o = reply_code (reply_of o) ≡ 0 → (cell_at (after S o) (next_to_publish (slot_at S i))).stamp ≡ commit_of (slot_at S i)
 
-  inside : (P : Outcome → Type 0) → ((r : Reply) → Bare r → P (refused r)) → (o : Outcome) → (i < length S.slots → P o)
+  inside : (P : Outcome → Type 0) → ((r : Refusal) → Bare r → P (refused r)) → (o : Outcome) → (i < length S.slots → P o)
       → P (inside_slots controller slot o)
   inside P refusal o f = slots-case controller S P refusal slot o (λ there. f (rw (right_of controller S right).slot_count there))
 
-  takes : i < length S.slots → (r : Reply) (x : Slot) → commit_of x ≡ suc S.clock
+  takes : i < length S.slots → (r : Answer) (x : Slot) → commit_of x ≡ suc S.clock
       → Took (below_last_stamp controller S (accepted r (turn S i (suc S.clock) S.cells x)))
   takes there r x same =
       refuse-case Took not-refused (eqb S.clock (last_stamp controller)) LastStamp bare _ λ below e.

@@ -1,7 +1,7 @@
 -- Any core that could stand in the place of `crocktendril_step`, and what it is for it to meet the contract.
-use Rattle.std.specs.Prelude.{true, cond, List, ◌≡◌, ℕ, pred, ◌^◌, ◌<◌}
+use Rattle.std.specs.Prelude.{true, cond, List, ◌≡◌, ℕ, pred, ◌^◌, ◌<◌, Err}
 use Rattle.wire.specs.Field.{Bytes}
-use Rattle.call.specs.declared.Reply.TheVariants.{NotWellFormed}
+use Rattle.call.specs.declared.Refusal.TheVariants.{NotWellFormed}
 use Rattle.call.specs.Answer.{reply_number}
 use Rattle.rules.specs.Model.{controller}
 use Rattle.rules.specs.State.{State}
@@ -41,7 +41,7 @@ result_of a = record { answer = reply_number a.reply; left = a.bytes }
 
 unfoldable pub core_of : (State → Call → Outcome) → Core
 core_of next l call =
-    result_of (cond (well_formed controller l) (answered controller l (next (state_of controller l) call)) (record { reply = NotWellFormed; bytes = l }))
+    result_of (cond (well_formed controller l) (answered controller l (next (state_of controller l) call)) (record { reply = Err NotWellFormed; bytes = l }))
 
 -- a step on states but for the row of one number
 unfoldable pub with_row : ℕ → (State → ℕ → Outcome) → (State → Call → Outcome) → State → Call → Outcome

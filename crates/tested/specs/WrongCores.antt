@@ -1,6 +1,6 @@
 -- The five wrong cores of "What the contracts are tested against", each whole, and the statement that the contract of `crocktendril_step` allows none of them.
 use Rattle.std.specs.Prelude.{Bool, true, not, cond, List, [], ◌∷◌, ◌⊎◌, ◌≡◌, ℕ, suc, pred, ◌/◌, ◌^◌, eqb, get_or, set}
-use Rattle.call.specs.declared.Reply.TheVariants.{Done, Aborted}
+use Rattle.call.specs.declared.Answer.TheVariants.{Done, Aborted}
 use Rattle.call.specs.Answer.{Refuses}
 use Rattle.slot.specs.declared.WriteEntry.{WriteEntry}
 use Rattle.slot.specs.Layout.{no_write}

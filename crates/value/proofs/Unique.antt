@@ -3,7 +3,7 @@ use mathlib.Core.Bool.{Bool}
 use mathlib.Core.Path.{◌≡◌, sym, ◌∙◌}
 use Prim.Native.Nat.{ℕ}
 use Rattle.value.specs.declared.CellValue.{CellValue}
-use Rattle.value.specs.declared.Parsed.{Parsed}
+use Rattle.std.specs.Prelude.{Option}
 use Rattle.value.specs.Legal.{legal_word}
 use Rattle.value.specs.Value.{kind_of, word_of, value_of, parsed}
 
@@ -14,7 +14,7 @@ given-once p q = p ∙ sym q
 pub legal-unique : (kind word : ℕ) (r₁ r₂ : Bool) → r₁ ≡ legal_word kind word → r₂ ≡ legal_word kind word → r₁ ≡ r₂
 legal-unique kind word r₁ r₂ = given-once
 
-pub from-word-unique : (kind word : ℕ) (r₁ r₂ : Parsed) → r₁ ≡ parsed kind word → r₂ ≡ parsed kind word → r₁ ≡ r₂
+pub from-word-unique : (kind word : ℕ) (r₁ r₂ : Option CellValue) → r₁ ≡ parsed kind word → r₂ ≡ parsed kind word → r₁ ≡ r₂
 from-word-unique kind word r₁ r₂ = given-once
 
 pub value-of-unique : (kind word : ℕ) (r₁ r₂ : CellValue) → r₁ ≡ value_of kind word → r₂ ≡ value_of kind word → r₁ ≡ r₂

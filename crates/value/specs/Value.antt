@@ -1,13 +1,11 @@
 -- A cell value's kind and word, and the value that a kind and a word stand for.
-use Rattle.std.specs.Prelude.{Bool, true, false, cond, ℕ, T, eqb, Float}
+use Rattle.std.specs.Prelude.{Bool, true, false, cond, ℕ, T, eqb, Float, Option, Some, None}
 use Rattle.std.specs.Float.{nan, inf, fin, binary32}
 use Rattle.std.specs.Float.Ieee.{fits, to_bits, of_bits}
 use Rattle.std.specs.Int.{w32}
 use Rattle.std.proofs.Common.{SFits, to_z, of_z}
 use Rattle.value.specs.declared.CellValue.{CellValue}
 use Rattle.value.specs.declared.CellValue.TheVariants.{Truth, Whole, Real}
-use Rattle.value.specs.declared.Parsed.{Parsed}
-use Rattle.value.specs.declared.Parsed.TheVariants.{Legal, Illegal}
 use Rattle.value.specs.Legal.{legal_word}
 
 abbrev pub kind_of : CellValue → ℕ
@@ -25,8 +23,9 @@ word_of (Real x) = to_bits binary32 x
 unfoldable pub value_of : ℕ → ℕ → CellValue
 value_of kind word = cond (eqb kind 1) (Truth (eqb word 1)) (cond (eqb kind 2) (Whole (to_z w32 word)) (Real (of_bits binary32 word)))
 
-unfoldable pub parsed : ℕ → ℕ → Parsed
-parsed kind word = cond (legal_word kind word) (Legal (value_of kind word)) Illegal
+-- .. or none, where the word is not legal for the kind
+unfoldable pub parsed : ℕ → ℕ → Option CellValue
+parsed kind word = cond (legal_word kind word) (Some (value_of kind word)) None
 
 -- neither a NaN nor an infinity
 abbrev pub finite : Float → Bool

@@ -1,8 +1,9 @@
 pub mod Done
+pub mod Exits
 pub mod Tests
 pub mod Fields
 pub mod Found
-pub mod Phase
+pub mod Phases
 pub mod Record
 pub mod Known
 pub mod Unique

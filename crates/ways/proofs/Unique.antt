@@ -3,7 +3,7 @@ use mathlib.Core.List.{List}
 use mathlib.Core.Path.{◌≡◌}
 use Prim.Native.Nat.{ℕ}
 use Rattle.wire.proofs.Unique.{unique}
-use Rattle.call.specs.declared.Reply.{Reply}
+use Rattle.call.specs.Answer.{Reply}
 use Rattle.rules.specs.Outcome.{Outcome}
 use Rattle.ways.specs.Did.{Did}
 

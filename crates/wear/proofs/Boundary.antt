@@ -18,6 +18,7 @@ use Rattle.level.specs.Level.{read_first, levelling, levelled_number}
 use Rattle.wear.specs.Wear.{wear}
 use Rattle.wear.specs.OnBytes.{wear_on_bytes}
 use Rattle.wear.specs.Contract.{Worn}
+use Rattle.wear.specs.Asked.{Asked}
 use Rattle.level.specs.Reached.{Comes}
 
 module _ (l set : List ℕ) (slot : ℕ) where
@@ -47,20 +48,22 @@ module _ (l set : List ℕ) (slot : ℕ) where
       slot-high h =
           comes-worn (rw (right, le-leb 1 slot (omega arith), lt-leb slot 8 h) (record { answer = refl; bytes = good-kept l good }))
 
-      module _ (low : 1 ≤ slot) (high : slot ≤ 8) where
-        -- 4
-        pub slot-busy : open_and_empty (slot_at (state_in l) (slot - 1)) ≡ false → Worn l set slot (4 * 2 ^ 40) l
-        unfolding wear levelled_number ◌and◌
-        slot-busy p =
-            let there : slot - 1 ≡ pred slot = omega arith in
-            let busy : open_and_empty (slot_at (state_in l) (pred slot)) ≡ false = rw (← there) p in
-            comes-worn (rw (right, le-leb 1 slot low, le-leb slot 8 high, busy) (record { answer = refl; bytes = good-kept l good }))
+      -- 4
+      pub slot-busy : 1 ≤ slot → slot ≤ 8 → open_and_empty (slot_at (state_in l) (slot - 1)) ≡ false → Worn l set slot (4 * 2 ^ 40) l
+      unfolding wear levelled_number ◌and◌
+      slot-busy low high p =
+          let there : slot - 1 ≡ pred slot = omega arith in
+          let busy : open_and_empty (slot_at (state_in l) (pred slot)) ≡ false = rw (← there) p in
+          comes-worn (rw (right, le-leb 1 slot low, le-leb slot 8 high, busy) (record { answer = refl; bytes = good-kept l good }))
 
-        -- the operation begins
-        pub levels : open_and_empty (slot_at (state_in l) (slot - 1)) ≡ true → (r : ℕ) (l' : List ℕ)
-            → Comes (levelling controller slot set (read_first controller (state_in l) slot set (length set))) r l' → Worn l set slot r l'
-        unfolding wear ◌and◌
-        levels p r l' comes =
-            let there : slot - 1 ≡ pred slot = omega arith in
-            let free : open_and_empty (slot_at (state_in l) (pred slot)) ≡ true = rw (← there) p in
-            comes-worn (rw (right, le-leb 1 slot low, le-leb slot 8 high, free) comes)
+      -- nothing stands against it
+      pub slot-free : 1 ≤ slot → slot ≤ 8 → open_and_empty (slot_at (state_in l) (slot - 1)) ≡ true → Asked l set slot
+      slot-free low high p =
+          let there : slot - 1 ≡ pred slot = omega arith in
+          record { good = good; right = right; low = low; high = high; free = rw (← there) p }
+
+  -- the operation begins
+  pub levels : Asked l set slot → (r : ℕ) (l' : List ℕ)
+      → Comes (levelling controller slot set (read_first controller (state_in l) slot set (length set))) r l' → Worn l set slot r l'
+  unfolding wear ◌and◌
+  levels asked r l' comes = comes-worn asked.good (rw (asked.right, le-leb 1 slot asked.low, le-leb slot 8 asked.high, asked.free) comes)

@@ -1,3 +1,4 @@
 pub mod Wear
 pub mod OnBytes
 pub mod Contract
+pub mod Asked

@@ -1,56 +1,30 @@
--- What is asked before the first read: the slot's transaction, and the set.
-use mathlib.Core.Bool.{Bool, true, false}
-use mathlib.Core.List.{List, [], ◌∷◌}
+-- What is asked of a set before the first read.
+use mathlib.Core.Bool.{Bool, true, false, not}
+use mathlib.Core.List.{List}
 use mathlib.Core.Path.{◌≡◌, refl, sym, ◌∙◌, ap}
-use Prim.Native.Nat.{ℕ, suc, ◌%◌, ◌<◌, ◌≤◌}
+use Prim.Native.Nat.{ℕ, ◌+◌, ◌%◌, ◌<◌, ◌≤◌}
+use native.Mathlib.Numerals.{add-one}
 use native.Mathlib.Omega.{arith}
-use borrow.Author.Tests.{eq-eqb, ne_eqb, lt-ltb, le-ltb, ltb-true, leb-true, eqb-true}
-use lib.Dec.{eqb}
-use lib.ListN.{length, get_or}
-use Rattle.slot.specs.declared.SlotRecord.{SlotRecord}
-use Rattle.slot.specs.Fields.{fields_of}
+use borrow.Author.Tests.{lt-ltb, le-ltb, ltb-true, leb-true, eqb-true, eqb-false}
+use lib.Dec.{eqb, ltb}
+use lib.ListN.{length, get_or, set, replicate, get_or-replicate}
+use lib.Seq.{get_or-set_same, get_or-set_other}
 use Rattle.slot.specs.Logic.{◌and◌, every}
-use Rattle.slot.proofs.Logic.{and_intro, and_left, and_right, and-false}
-use Rattle.rules.specs.State.{State, Slot, idle, opened, locking, twilight, publishing, cell_count, cell_at}
+use Rattle.slot.proofs.Logic.{and_intro, and_left, and_right, and-true, and-false}
+use Rattle.rules.specs.State.{State, cell_count, cell_at}
 use Rattle.rules.specs.declared.Cell.{Cell}
-use Rattle.rules.specs.Layout.{lay}
 use Rattle.rules.specs.Model.{controller}
 use Rattle.rules.proofs.AreaRead.{count-read}
 use Rattle.area.specs.Good.{Good, state_in}
 use Rattle.logcheck.proofs.Chains.{pass, stop, every-no, every-yes}
 use Rattle.logcheck.proofs.LogLaws.{apart}
 use Rattle.wearset.specs.WearSet.{set_length_right, kind_due, cell_fits, place_right, set_right}
-use Rattle.wearset.specs.OpenEmpty.{open_and_empty}
-
--- open with empty logs, by the record's fields
-empty-fields : (x : Slot) → open_and_empty x ≡ (eqb (lay x).phase 1 and eqb (lay x).readcount 0 and eqb (lay x).writecount 0)
-unfolding ◌and◌
-empty-fields idle = refl
-empty-fields (opened start [] []) = refl
-empty-fields (opened start [] (e ∷ writes)) = sym (ne_eqb (suc (length writes)) 0 (λ z. omega arith))
-empty-fields (opened start (e ∷ reads) writes) = rw (ne_eqb (suc (length reads)) 0 (λ z. omega arith))
-empty-fields (locking taken start reads writes) = refl
-empty-fields (twilight ignoring start commit reads writes) = refl
-empty-fields (publishing ignoring taken start commit reads writes) = refl
-
-module _ (x : Slot) (v : SlotRecord) (e : v ≡ fields_of (lay x)) where
-  asked : open_and_empty x ≡ (eqb v.phase 1 and eqb v.readcount 0 and eqb v.writecount 0)
-  asked = empty-fields x ∙ sym (ap (λ (u : SlotRecord). eqb u.phase 1 and eqb u.readcount 0 and eqb u.writecount 0) e)
-
-  pub not-open : (v.phase ≡ 1 → ⊥) → false ≡ open_and_empty x
-  not-open p = stop _ _ _ (ne_eqb v.phase 1 p) refl ∙ sym asked
-
-  pub has-reads : v.phase ≡ 1 → (r : Bool) → eqb v.readcount 0 ≡ false → r ≡ false → r ≡ open_and_empty x
-  has-reads p r some_read q = pass _ _ _ (eq-eqb v.phase 1 p) (stop _ _ _ some_read q) ∙ sym asked
-
-  pub by-writes : v.phase ≡ 1 → eqb v.readcount 0 ≡ true → eqb v.writecount 0 ≡ open_and_empty x
-  by-writes p no_read = pass _ _ _ (eq-eqb v.phase 1 p) (pass _ _ _ no_read refl) ∙ sym asked
 
 -- a cell of the right kind
 module _ (S : State) (place c : ℕ) where
-  pub no_cell : (n : ℕ) → n ≡ cell_count S → n ≤ c → false ≡ cell_fits S place c
+  pub no_cell : (n : ℕ) → n ≡ cell_count S → n ≤ c → ltb c n ≡ cell_fits S place c
   unfolding cell_fits
-  no_cell n e h = stop _ _ _ (le-ltb c (cell_count S) (omega arith)) refl
+  no_cell n e h = stop _ _ _ (le-ltb c (cell_count S) (omega arith)) (le-ltb c n h)
 
   pub by_kind : (n kind : ℕ) (x : Cell) → n ≡ cell_count S → c < n → x ≡ cell_at S c → kind ≡ x.kind → eqb kind (kind_due place) ≡ cell_fits S place c
   unfolding cell_fits
@@ -68,6 +42,28 @@ inside-64 l place c good p =
     let count = count-read controller l in
     let many = good.many in
     omega arith
+
+-- `seen` has the cells of the places that were passed
+module _ (cell : ℕ → ℕ) where
+  abbrev pub Seen : List Bool → ℕ → Type 0
+  Seen seen place = (x : ℕ) → x < 64 → not (get_or seen x false) ≡ every place (λ k. apart (cell k) x)
+
+  pub seen-none : Seen (replicate 64 false) 0
+  unfolding every
+  seen-none x h = ap not (get_or-replicate 64 x false false h)
+
+  pub seen-next : (seen : List Bool) (place c : ℕ) → length seen ≡ 64 → c < 64 → c ≡ cell place → Seen seen place → Seen (set seen c true) (place + 1)
+  unfolding every
+  seen-next seen place c size below here before x h = rw (add-one place, ← here) (by (eqb c x) refl)
+    where
+      by : (b : Bool) → eqb c x ≡ b → not (get_or (set seen c true) x false) ≡ (every place (λ k. apart (cell k) x) and apart c x)
+      by true e =
+          let same : c ≡ x = eqb-true _ _ e in
+          let now : get_or (set seen c true) x false ≡ true = rw (← same) (get_or-set_same seen c true false (omega arith)) in
+          ap not now ∙ rw e (sym (and-false _))
+      by false e =
+          let kept : get_or (set seen c true) x false ≡ get_or seen x false = get_or-set_other seen c x true false (λ s. eqb-false _ _ e (sym s)) in
+          ap not kept ∙ before x h ∙ rw e (sym (and-true _))
 
 -- a turn of the loop over the set: the cell at a place, and whether none before it is the same
 module _ (S : State) (set : List ℕ) (place c : ℕ) (here : c ≡ get_or set place 0) where

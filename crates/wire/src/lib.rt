@@ -1,4 +1,5 @@
-// Big-endian fields of any width in a byte slice, and a part put in place of as many bytes.
+// Big-endian fields of any width in a byte slice, and a part put in place of as many bytes. A place stands beside the bytes here and in the crates above, since an area
+// is one lent slice (C lends it), and a promise says what every byte of it is.
 #![tactic(auto)]
 
 ghost use Rattle.std.specs.Prelude.{◌≡◌, ◌+◌, ◌≤◌, length};
@@ -11,10 +12,8 @@ pub fn get(s: &[u8], at: usize, width: usize) -> u64
     ensures { result ≡ field_at s.now at width }
 {
     let mut n: u64 = 0;
-    let mut i = 0;
-    while i < width {
-        n = n * 256 + (s[at + i] as u64);
-        i += 1;
+    for byte in &s[at..at + width] {
+        n = n * 256 + u64::from(*byte);
     }
     n
 }
@@ -33,9 +32,7 @@ pub fn put(s: &mut [u8], at: usize, width: usize, number: u64)
     ensures { s.new ≡ field_put s.old at width number }
 {
     let mut n = number;
-    let mut k = width;
-    while 0 < k {
-        k -= 1;
+    for k in (0..width).rev() {
         s[at + k] = (n % 256) as u8;
         n = n / 256;
     }
@@ -46,9 +43,5 @@ pub fn put_part(s: &mut [u8], at: usize, part: &[u8])
     requires { at + length part.now ≤ length s.old }
     ensures { s.new ≡ splice s.old at part.now }
 {
-    let mut i = 0;
-    while i < part.len() {
-        s[at + i] = part[i];
-        i += 1;
-    }
+    s[at..at + part.len()].copy_from_slice(part);
 }

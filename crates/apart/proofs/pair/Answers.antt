@@ -1,12 +1,7 @@
--- `pair` meets its contract: past the end both bytes are 0.
-use native.Mathlib.Omega.{arith}
-use Rattle.apart.proofs.Reading.{pair-at, pair-past}
+-- `pair` meets its contract: two bytes are a field.
+use Rattle.apart.proofs.Reading.{pair-at}
 use Rattle.apart.proofs.pair.Goals as goal
-
-pub returns-then-s-at : goal.returns-then-s-at
-returns-then-s-at c =
-    (pair-past c.args.s.now c.args.at (omega arith), omega arith)
 
 pub returns : goal.returns
 returns c =
-    (rw c.byte.ensures (pair-at c.args.s.now c.args.at), omega (arith, c.type_inv.s c.args.at))
+    rw (c.from_be_bytes.ensures, c.byte.ensures, c.byte-2.ensures) (pair-at c.args.s.now c.args.at)

@@ -1,7 +1,9 @@
--- `word` meets its contract: four bytes are two pairs.
-use Rattle.apart.proofs.Reading.{word_at}
+-- `word` meets its contract: four bytes are a field.
+use native.Mathlib.Omega.{arith}
+use lib.Seq.{get_or-drop}
+use Rattle.wire.specs.Field.{be}
 use Rattle.apart.proofs.word.Goals as goal
 
 pub returns : goal.returns
-returns c =
-    rw (c.pair.ensures.0, c.pair-2.ensures.0) (word_at c.args.s.now)
+unfolding be
+returns c = simp get_or-drop (omega arith)

@@ -5,10 +5,10 @@ use Rattle.slot.specs.Logic.{◌and◌}
 use Rattle.rules.specs.Cells.{held_by_other}
 use Rattle.area.proofs.held_by_other.Goals as goal
 
-pub returns-then-x-eq0 : goal.returns-then-x-eq0
+pub returns-then-x-ne0 : goal.returns-then-x-ne0
 unfolding held_by_other ◌and◌
-returns-then-x-eq0 c = simp (eq-eqb _ _ c.if-x-eq0.true)
+returns-then-x-ne0 c = simp (ne_eqb _ _ c.if-x-ne0.true, add-one)
 
-pub returns : goal.returns
+pub returns-else-x-ne0 : goal.returns-else-x-ne0
 unfolding held_by_other ◌and◌
-returns c = simp (ne_eqb _ _ c.if-x-eq0.false, add-one)
+returns-else-x-ne0 c = simp (eq-eqb _ _ c.if-x-ne0.false)

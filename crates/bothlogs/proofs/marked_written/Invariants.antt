@@ -1,4 +1,3 @@
-use Prim.Native.Nat.{◌-◌}
 use Rattle.slot.specs.declared.WriteEntry.{WriteEntry}
 use Rattle.slot.specs.Layout.{write_capacity}
 use Rattle.slot.specs.Logs.{read_log}
@@ -9,7 +8,4 @@ use Rattle.bothlogs.proofs.marked_written.Given as goal
 
 abbrev pub invariant-loop-i : goal.invariant-loop-i
 invariant-loop-i l =
-    Sought (λ (w : WriteEntry). marks_cell (read_log (slot_in l.width l.at l.s)) w.cell) (slot_in l.width l.at l.s).writes write_capacity l.count l.i
-
-abbrev pub decreases-loop-i : goal.decreases-loop-i
-decreases-loop-i l = l.count - l.i
+    Sought (λ (w : WriteEntry). marks_cell (read_log (slot_in l.width l.at l.s)) w.cell) (slot_in l.width l.at l.s).writes write_capacity (slot_in l.width l.at l.s).writecount l.i

@@ -1,4 +1,5 @@
 -- Each call pays for its line, whatever its numbers.
+use Rattle.std.specs.Prelude.{Ok, Err}
 use mathlib.Core.Bool.{Bool, true, false, not, cond}
 use mathlib.Core.List.{List, [], ◌∷◌}
 use mathlib.Core.Path.{◌≡◌, refl, subst}
@@ -8,12 +9,12 @@ use lib.Dec.{T, eqb, leb→le}
 use lib.ListN.{length, length-map}
 use borrow.Author.Tests.{ne_eqb, ltb-true, leb-true}
 use Rattle.call.specs.declared.Step.{Step}
-use Rattle.call.specs.declared.Decoded.TheVariants.{Made}
-use Rattle.call.specs.declared.Reply.{Reply}
-use Rattle.call.specs.declared.Reply.TheVariants.{Done, Aborted}
-use Rattle.call.specs.Answer.{reply_code}
+use Rattle.call.specs.Answer.{Reply, reply_code, refusal_code}
+use Rattle.call.specs.declared.Answer.{Answer}
+use Rattle.call.specs.declared.Refusal.{Refusal}
+use Rattle.call.specs.declared.Answer.TheVariants.{Done, Aborted}
 use Rattle.call.specs.Decode.{step_number, decoded}
-use Rattle.call.proofs.Number.{number-back}
+use Rattle.call.proofs.Numbers.{number-back}
 use Rattle.slot.specs.declared.ReadEntry.{ReadEntry}
 use Rattle.slot.specs.declared.WriteEntry.{WriteEntry}
 use Rattle.slot.specs.Logic.{◌and◌, ◌or◌, All}
@@ -30,7 +31,7 @@ use Rattle.rules.specs.StateRight.{state_right}
 use Rattle.rules.specs.Outcome.{reply_of, after}
 use Rattle.rules.specs.Step.{Call, step}
 use Rattle.history.specs.History.{Event, from_shared}
-use Rattle.history.proofs.Cases.{Refusal}
+use Rattle.history.proofs.Cases.{OfStep}
 use Rattle.history.proofs.Invariant.{All-mapped, all-each}
 use Rattle.history.proofs.Keeps.Lists.{cond-elim}
 use Rattle.history.proofs.Keeps.Slots.{SlotHolds, slot-holds}
@@ -59,11 +60,11 @@ module _ (S : State) (a : Call) (number : ℕ) where
   bytes r = length (trace (effect_of number (event r)))
 
   -- a refused call has none
-  refused-silent : (r : Reply) → Refusal r → effect_of number (event r) ≡ []
+  refused-silent : (r : Refusal) → OfStep r → effect_of number (event (Err r)) ≡ []
   unfolding effect_of ◌and◌ ◌or◌
   refused-silent r k =
-      let low = leb→le 2 (reply_code r) k.0 in
-      simp (ne_eqb (reply_code r) 0 (omega arith), off (eqb (reply_code r) 13) k.1, and-false)
+      let low = leb→le 2 (refusal_code r) k.0 in
+      simp (ne_eqb (refusal_code r) 0 (omega arith), off (eqb (refusal_code r) 13) k.1, and-false)
 
   -- a silent call that changes nothing
   rests : (r : Reply) → effect_of number (event r) ≡ [] → Pays S (bytes r) S
@@ -134,42 +135,42 @@ module _ (S : State) (a : Call) (number : ℕ) where
           rw length-map at (cells-short (written_cells writes) low)
 
       -- so `co` has at most 15 bytes, and 3 more for each cell
-      commit-short : a.step ≡ 12 → bytes Done ≤ 15 + 3 * length writes
+      commit-short : a.step ≡ 12 → bytes (Ok Done) ≤ 15 + 3 * length writes
       unfolding effect_of ◌and◌ ◌or◌
       commit-short e =
-          line-short (effect.committed a.slot number commit (written_cells writes)) Done (15 + 3 * length writes) (rw (e, was))
+          line-short (effect.committed a.slot number commit (written_cells writes)) (Ok Done) (15 + 3 * length writes) (rw (e, was))
           (omega (arith, slot-few, number-few, stamp-few, log-short))
 
     -- every accepted step pays
-    move-pays : {s : Step} {r : Reply} {T : State} → Move controller S (pred a.slot) s r T → decoded a.step a.cell a.kind a.word ≡ Made s
-        → a.step ≡ step_number s → Pays S (bytes r) T
+    move-pays : {s : Step} {r : Answer} {T : State} → Move controller S (pred a.slot) s r T → decoded a.step a.cell a.kind a.word ≡ Ok s
+        → a.step ≡ step_number s → Pays S (bytes (Ok r)) T
     unfolding effect_of ◌and◌ ◌or◌
-    move-pays (began x) d e = prints Done 10 _ _ _ (plain (effect.begun a.slot number) Done (rw e) refl refl) x (omega arith)
-    move-pays {r = r} (read-written {c = c} x there w) d e = stays S (bytes r) (read_short r c e refl (read_names _ _ _ _ c e d) there)
-    move-pays {r = r} (read_again {c = c} x there w q) d e = stays S (bytes r) (read_short r c e refl (read_names _ _ _ _ c e d) there)
+    move-pays (began x) d e = prints (Ok Done) 10 _ _ _ (plain (effect.begun a.slot number) (Ok Done) (rw e) refl refl) x (omega arith)
+    move-pays {r = r} (read-written {c = c} x there w) d e = stays S (bytes (Ok r)) (read_short (Ok r) c e refl (read_names _ _ _ _ c e d) there)
+    move-pays {r = r} (read_again {c = c} x there w q) d e = stays S (bytes (Ok r)) (read_short (Ok r) c e refl (read_names _ _ _ _ c e d) there)
     move-pays {r = r} (read_first {c = c} x there w q room held new) d e =
-        prints r 12 _ _ _ (read_short r c e refl (read_names _ _ _ _ c e d) there) x (omega arith)
-    move-pays (wrote {c = c} {v = v} {writes = writes} x fit room) d e = quiet Done _ _ _ _ (rw e) x (omega arith) (omega (arith, put-length (new_write c v) writes))
-    move-pays (closed x) d e = quiet Done _ _ _ _ (rw e) x (omega arith) (omega arith)
-    move-pays (locked x more same free) d e = quiet Done _ _ _ _ (rw e) x (omega arith) (omega arith)
-    move-pays {r = r} (entered x whole below) d e = quiet r _ _ _ _ (rw e) x (omega arith) (omega arith)
-    move-pays {r = r} (reread-done f) d e = rests r (rw e)
-    move-pays (updated {c = c} {v = v} {writes = writes} x fit found) d e = quiet Done _ _ _ _ (rw e) x (omega arith) (omega (arith, put-length (new_write c v) writes))
-    move-pays {r = r} (ask-done f) d e = rests r (rw e)
+        prints (Ok r) 12 _ _ _ (read_short (Ok r) c e refl (read_names _ _ _ _ c e d) there) x (omega arith)
+    move-pays (wrote {c = c} {v = v} {writes = writes} x fit room) d e = quiet (Ok Done) _ _ _ _ (rw e) x (omega arith) (omega (arith, put-length (new_write c v) writes))
+    move-pays (closed x) d e = quiet (Ok Done) _ _ _ _ (rw e) x (omega arith) (omega arith)
+    move-pays (locked x more same free) d e = quiet (Ok Done) _ _ _ _ (rw e) x (omega arith) (omega arith)
+    move-pays {r = r} (entered x whole below) d e = quiet (Ok r) _ _ _ _ (rw e) x (omega arith) (omega arith)
+    move-pays {r = r} (reread-done f) d e = rests (Ok r) (rw e)
+    move-pays (updated {c = c} {v = v} {writes = writes} x fit found) d e = quiet (Ok Done) _ _ _ _ (rw e) x (omega arith) (omega (arith, put-length (new_write c v) writes))
+    move-pays {r = r} (ask-done f) d e = rests (Ok r) (rw e)
     move-pays (reloading x clear below) d e =
-        turns S (pred a.slot) _ _ _ _ _ inside x (omega arith) (omega (arith, plain (effect.reloaded a.slot number) Done (rw e) refl refl))
-    move-pays (ignored x free m) d e = quiet Done _ _ _ _ (rw e) x (omega arith) (omega arith)
-    move-pays nothing-to-ignore d e = rests Done (rw e)
-    move-pays (aborted x m) d e = prints Aborted 10 _ _ _ (plain (effect.aborted a.slot number) Aborted (rw e) refl refl) x (omega arith)
+        turns S (pred a.slot) _ _ _ _ _ inside x (omega arith) (omega (arith, plain (effect.reloaded a.slot number) (Ok Done) (rw e) refl refl))
+    move-pays (ignored x free m) d e = quiet (Ok Done) _ _ _ _ (rw e) x (omega arith) (omega arith)
+    move-pays nothing-to-ignore d e = rests (Ok Done) (rw e)
+    move-pays (aborted x m) d e = prints (Ok Aborted) 10 _ _ _ (plain (effect.aborted a.slot number) (Ok Aborted) (rw e) refl refl) x (omega arith)
     move-pays (committed {ignoring = ignoring} {start = start} {commit = commit} {reads = reads} {writes = writes} x m) d e =
-        prints Done (15 + 3 * length writes) _ _ _ (commit-short ignoring start commit reads writes x e) x (omega (arith, spent ignoring 0 start commit reads writes))
+        prints (Ok Done) (15 + 3 * length writes) _ _ _ (commit-short ignoring start commit reads writes x e) x (omega (arith, spent ignoring 0 start commit reads writes))
     move-pays (published {ignoring = ignoring} {count = count} {start = start} {commit = commit} {reads = reads} {writes = writes} x same) d e =
-        quiet Done _ _ _ _ (rw e) x (omega arith) (omega (arith, spent ignoring (suc count) start commit reads writes))
-    move-pays (gave-up u) d e = prints Done 10 _ _ _ (plain (effect.aborted a.slot number) Done (rw e) refl refl) refl (omega arith)
+        quiet (Ok Done) _ _ _ _ (rw e) x (omega arith) (omega (arith, spent ignoring (suc count) start commit reads writes))
+    move-pays (gave-up u) d e = prints (Ok Done) 10 _ _ _ (plain (effect.aborted a.slot number) (Ok Done) (rw e) refl refl) refl (omega arith)
 
   -- .. and so does any call, of any numbers
   pub step-pays : state_right controller S ≡ true → number < 10 ^ 4 → S.clock < 10 ^ 4
       → Pays S (bytes (reply_of (step controller S a))) (after S (step controller S a))
   step-pays right small young =
-      step_case controller S (λ o. Pays S (bytes (reply_of o)) (after S o)) (λ r k. rests r (refused-silent r k)) a
+      step_case controller S (λ o. Pays S (bytes (reply_of o)) (after S o)) (λ r k. rests (Err r) (refused-silent r k)) a
       (λ s made h r T m. move-pays (right_of controller S right) h small young m made (number-back a.step a.cell a.kind a.word s made))

@@ -1,25 +1,43 @@
--- `trace_steps` meets its contract: before each turn the first `k` steps are made, and the lines of their effects gathered.
+-- `trace_steps` meets its contract: before each turn the steps before those that are left are made, and the lines of their effects gathered.
 use mathlib.Core.List.{flat_map}
-use mathlib.Core.Path.{refl, ◌∙◌}
-use native.Mathlib.Omega.{arith}
-use Rattle.line.proofs.Gather.{leaves_none}
+use mathlib.Core.Path.{refl}
+use lib.ListN.{length, length-append}
+use Rattle.line.specs.Gather.{written}
+use Rattle.line.proofs.Gather.{writes_none}
 use Rattle.stage.specs.Calls.{area_after}
-use Rattle.stage.proofs.Steps.{step-at, next-area}
+use Rattle.stage.proofs.Steps.{all_left, none-left, step-left, next-left, next-area}
 use Rattle.effects.specs.Steps.{numbers_at, effects_up_to}
 use Rattle.effects.proofs.Steps.{numbers-next, lines_next}
 use Rattle.effects.proofs.trace_steps.Goals as goal
 
-pub loop-k-init : goal.loop-k-init
+pub loop-step-init : goal.loop-step-init
 unfolding area_after numbers_at effects_up_to flat_map
-loop-k-init c = (omega arith, refl, refl, refl, c.none-numbers.ensures, leaves_none)
+loop-step-init c =
+    rw c.into_iter-step-iterator.ensures.into_iter_gives
+    (record {
+      left = all_left _ c.chunks_exact-step-items.ensures.size c.chunks_exact-step-items.ensures.rest refl;
+      made = refl;
+      counted = c.none-numbers.ensures;
+      lines = writes_none c.args.out.now;
+    })
 
-pub loop-k-preserved : goal.loop-k-preserved
-loop-k-preserved c =
-    let made = rw (step-at c.args.steps.now c.loop-k.k) at c.trace_step-traced.ensures in (
-      omega arith,
-      c.trace_step-traced.auto.area ∙ c.loop-k.invariant.1,
-      c.trace_step-traced.auto.out ∙ c.loop-k.invariant.2,
-      next-area c.args.area.now c.args.steps.now c.loop-k.k c.loop-k.invariant.3 made.area,
-      numbers-next c.args.area.now c.args.steps.now c.args.out.now c.loop-k.k c.loop-k.invariant.3 c.loop-k.invariant.4 made,
-      lines_next c.args.area.now c.args.steps.now c.args.out.now c.loop-k.k c.loop-k.invariant.3 c.loop-k.invariant.4 made c.loop-k.invariant.5,
-    )
+pub loop-step-preserved : goal.loop-step-preserved
+loop-step-preserved c =
+    let inv = c.loop-step.invariant in
+    let a = c.args.area.now in
+    let l = c.args.steps.now in
+    let k = length c.loop-step.yielded in
+    let chunk = c.in-Some.ensures.steps in
+    let made = rw (step-left inv.left _ _ chunk.1.0 chunk.1.1) at c.trace_step-numbers.ensures in
+    rw length-append (record {
+      left = next-left inv.left _ _ chunk.1.0 chunk.1.1 chunk.0 refl;
+      made = next-area a l k inv.made made.area;
+      counted = numbers-next a l (written c.args.out.now) k inv.made inv.counted made;
+      lines = lines_next a l (written c.args.out.now) k inv.made inv.counted made inv.lines;
+    })
+
+pub returns : goal.returns
+returns c =
+    let inv = c.loop-step.invariant in
+    let all = none-left inv.left c.in-None.ensures.steps.1.0 in
+    record { area = rw all at inv.made; lines = rw all at inv.lines }

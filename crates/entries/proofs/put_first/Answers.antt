@@ -6,6 +6,7 @@ use native.Mathlib.Omega.{arith}
 use lib.ListN.{length, set}
 use Rattle.wire.specs.Part.{splice}
 use Rattle.wire.proofs.Laws.Part.{splice-set, splice-store}
+use Rattle.slot.proofs.Entry.{bit-from}
 use Rattle.entries.proofs.put_first.Goals as goal
 
 -- five stores one after the other are one part
@@ -20,5 +21,5 @@ five a at u v x y z h =
 
 pub returns : goal.returns
 returns c =
-    rw (← c.byte_of.ensures)
-    (five c.args.s.now c.args.at c.args.phase c.byte_of.result c.args.taken c.args.readcount c.args.writecount (c.requires))
+    rw (← bit-from c.args.v.now.ignoring, ← c.from.ensures)
+    (five c.args.s.now c.args.at c.args.v.now.phase c.from.result c.args.v.now.taken c.args.v.now.readcount c.args.v.now.writecount (c.requires))

@@ -1,25 +1,13 @@
--- `all_legal` meets its contract: before each turn the first `k` descriptions are legal, so the test goes on from there.
-use mathlib.Core.Path.{sym, ap, ◌∙◌}
-use native.Mathlib.Omega.{arith}
-use Rattle.rules.specs.State.{no_cell}
+-- `all_legal` meets its contract: the chunks are the descriptions, and each is tested as the definition tests it.
+use mathlib.Core.Path.{◌∙◌}
+use Rattle.std.proofs.Common.{rules}
+use Rattle.std.proofs.lemmas.Iterator.Search.{all_from_yields_List}
 use Rattle.rules.specs.Area.{described_cells}
 use Rattle.fresh.specs.Parts.{legal_cell}
-use Rattle.fresh.proofs.Tested.{all-failed, all-passed, all_tested}
-use Rattle.rules.proofs.LaidOut.{described-length, described-at}
+use Rattle.fresh.proofs.Descriptions.{cells-yielded, all-listed}
 use Rattle.fresh.proofs.all_legal.Goals as goal
-
-pub returns-then-not-legal : goal.returns-then-not-legal
-returns-then-not-legal c =
-    let ds = c.args.ds.now in
-    let test = ap legal_cell (sym (c.described-x.ensures ∙ sym (described-at ds c.loop-k.k (omega arith)))) ∙ sym c.legal.ensures ∙ c.if-not-legal.true in
-    sym (c.loop-k.invariant.1 ∙ all-failed legal_cell no_cell (described_cells ds) c.loop-k.k (rw (described-length ds) (omega arith)) test)
-
-pub loop-k-preserved : goal.loop-k-preserved
-loop-k-preserved c =
-    let ds = c.args.ds.now in
-    let test = ap legal_cell (sym (c.described-x.ensures ∙ sym (described-at ds c.loop-k.k (omega arith)))) ∙ sym c.legal.ensures ∙ c.if-not-legal.false in
-    (omega arith, c.loop-k.invariant.1 ∙ all-passed legal_cell no_cell (described_cells ds) c.loop-k.k (rw (described-length ds) (omega arith)) test)
 
 pub returns : goal.returns
 returns c =
-    sym (c.loop-k.invariant.1 ∙ all_tested legal_cell no_cell (described_cells c.args.ds.now) c.loop-k.k (rw (described-length c.args.ds.now) (omega arith)))
+    all_from_yields_List legal_cell _ _ _ c.all.ensures.ran (cells-yielded c.args.ds.now c.chunks_exact.ensures.rest c.chunks_exact.ensures.size) (λ d b f called. search rules)
+    ∙ all-listed legal_cell (described_cells c.args.ds.now)

@@ -1,5 +1,5 @@
 -- `lay_out` meets its contract: the tests are the definition's, in its order, and each way out is one of its three.
-use mathlib.Core.Path.{refl, sym, ◌∙◌}
+use mathlib.Core.Path.{sym, ◌∙◌}
 use Rattle.fresh.proofs.Parts.{lengths-of, wrong-lengths, wrong-value, all_right}
 use Rattle.fresh.proofs.lay_out.Goals as goal
 
@@ -13,7 +13,7 @@ returns-then-not-all_legal c =
 pub put_fresh-requires : goal.put_fresh-requires
 put_fresh-requires c =
     let lengths = lengths-of _ _ (sym c.lengths_fit.ensures ∙ c.if-not-lengths_fit.false) in
-    (refl, lengths.many, lengths.long)
+    (lengths.many, lengths.long)
 
 pub returns : goal.returns
 returns c =

@@ -4,5 +4,5 @@ use Rattle.fresh.proofs.put_fresh.Goals as goal
 
 pub returns : goal.returns
 returns c =
-    laid_out c.args.ds.now c.args.n c.args.s.now c.put_header.new.s c.put_described.new.s c.put_idle.new.s
-    c.requires.0 c.requires.2 c.put_header.ensures c.put_described.ensures c.put_idle.ensures
+    laid_out c.args.ds.now c.args.s.now c.put_header.new.s c.put_described.new.s c.put_idle.new.s
+    c.requires.1 c.put_header.ensures c.put_described.ensures c.put_idle.ensures

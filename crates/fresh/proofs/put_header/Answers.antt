@@ -16,7 +16,7 @@ returns c =
     let n = c.args.n in
     let length-field = to_be 4 (14 + 14 * n + 197 * 8) in
     let one = splice-set a 0 1 (omega arith) in
-    let two = splice-next a 0 (1 ∷ []) length-field (set a 0 1) c.put.new.s 1 (omega arith) refl one c.put.ensures in
+    let two = splice-next a 0 (1 ∷ []) length-field (set a 0 1) c.put.new.s 1 (omega arith) refl one (rw c.from.ensures at c.put.ensures) in
     let three = splice-store a 0 (1 ∷ length-field) c.put.new.s 5 n (omega arith) (rw length-to_be) two in
     let four =
     splice-next a 0 ((1 ∷ length-field) ++ (n ∷ [])) (to_be 8 0) (set c.put.new.s 5 n) c.put-2.new.s 6 (omega arith) (simp (length-append, length-to_be)) three

@@ -6,18 +6,19 @@ use mathlib.Core.Path.{◌≡◌, refl, subst}
 use Prim.Native.Nat.{ℕ}
 use lib.Dec.{T, eqb}
 use lib.ListN.{length}
-use Rattle.call.specs.Answer.{reply_code}
-use Rattle.call.specs.declared.Reply.{Reply}
-use Rattle.call.specs.declared.Reply.TheVariants.{NotAllowed, NotInLog}
+use Rattle.call.specs.declared.Answer.{Answer}
+use Rattle.call.specs.declared.Refusal.{Refusal}
+use Rattle.call.specs.Answer.{answer_code}
+use Rattle.call.specs.declared.Refusal.TheVariants.{NotAllowed, NotInLog}
 use Rattle.slot.specs.declared.ReadEntry.{ReadEntry}
 use Rattle.slot.specs.declared.WriteEntry.{WriteEntry}
 use Rattle.rules.specs.State.{State, Slot, idle, opened, locking, twilight, publishing, cell_at, slot_at}
-use Rattle.history.proofs.Cases.{Refusal}
+use Rattle.history.proofs.Cases.{OfStep}
 use Rattle.rules.specs.Outcome.{Outcome, refused, accepted, when_idle, when_open, when_locking, when_twilight, when_publishing, when_uncommitted, refuse_if, in_log, found_or}
 
 -- an acceptance has code 0 or 13
-abbrev pub Acceptance : Reply → Type 0
-Acceptance r = T (cond (eqb (reply_code r) 0) true (eqb (reply_code r) 13))
+abbrev pub Acceptance : Answer → Type 0
+Acceptance r = T (cond (eqb (answer_code r) 0) true (eqb (answer_code r) 13))
 
 -- what is the same after both
 pub record SameAfter (S S' : State) (i : ℕ) (T T' : State) : Type 0 where
@@ -27,8 +28,8 @@ pub record SameAfter (S S' : State) (i : ℕ) (T T' : State) : Type 0 where
 
 -- both steps of slot i, from S and from S', are refused or accepted with one reply
 pub data Matches (S S' : State) (i : ℕ) : Outcome → Outcome → Type 0 where
-  both-refused : {r r' : Reply} → r ≡ r' → Refusal r → Matches S S' i (refused r) (refused r')
-  both-accepted : {r r' : Reply} {T T' : State} → r ≡ r' → Acceptance r → SameAfter S S' i T T' → Matches S S' i (accepted r T) (accepted r' T')
+  both-refused : {r r' : Refusal} → r ≡ r' → OfStep r → Matches S S' i (refused r) (refused r')
+  both-accepted : {r r' : Answer} {T T' : State} → r ≡ r' → Acceptance r → SameAfter S S' i T T' → Matches S S' i (accepted r T) (accepted r' T')
 
 module _ {S S' : State} {i : ℕ} where
   not-allowed : Matches S S' i (refused NotAllowed) (refused NotAllowed)
@@ -41,7 +42,7 @@ module _ {S S' : State} {i : ℕ} where
       by true f g = f refl
       by false f g = g refl
 
-  pub both-refuse : (t t' : Bool) (r r' : Reply) (o o' : Outcome) → t ≡ t' → r ≡ r' → Refusal r → (t ≡ false → Matches S S' i o o') → Matches S S' i (refuse_if t r o) (refuse_if t' r' o')
+  pub both-refuse : (t t' : Bool) (r r' : Refusal) (o o' : Outcome) → t ≡ t' → r ≡ r' → OfStep r → (t ≡ false → Matches S S' i o o') → Matches S S' i (refuse_if t r o) (refuse_if t' r' o')
   both-refuse t t' r r' o o' e d c f = both_cond t t' (refused r) (refused r') o o' e (λ p. both-refused d c) f
 
   pub both_found : {A : Type 0} (e e' : Option A) (o o' : A → Outcome) (other other' : Outcome) → e ≡ e' → ((x : A) → e ≡ some x → Matches S S' i (o x) (o' x)) → (e ≡ none → Matches S S' i other other')

@@ -1,12 +1,12 @@
 -- Calls go by what their steps go by: codes 2 and 3 depend on the call alone, and a write or an update without a legal value looks at its slot and n.
+use Rattle.std.specs.Prelude.{Ok, Err}
 use mathlib.Core.Bool.{not}
 use mathlib.Core.Path.{refl}
 use Prim.Native.Nat.{ℕ, pred}
 use lib.Dec.{leb}
-use Rattle.call.specs.declared.Decoded.{Decoded}
-use Rattle.call.specs.declared.Decoded.TheVariants.{Made, IllegalWrite, IllegalUpdate, Unknown}
-use Rattle.call.specs.declared.Reply.TheVariants.{NoSuchStep, NoSuchSlot, IllegalValue}
-use Rattle.call.specs.Decode.{decoded}
+use Rattle.call.specs.Decode.{Decoded, decoded}
+use Rattle.call.specs.declared.Undecoded.TheVariants.{IllegalWrite, IllegalUpdate, Unknown}
+use Rattle.call.specs.declared.Refusal.TheVariants.{NoSuchStep, NoSuchSlot, IllegalValue}
 use Rattle.slot.specs.Logic.{◌and◌}
 use Rattle.rules.specs.Model.{Model, last_step}
 use Rattle.rules.specs.State.{State, slot_at}
@@ -24,16 +24,16 @@ module _ (M : Model) (S S' : State) where
 
   of-match : (slot : ℕ) (d : Decoded) → Alike S S' (pred slot) (named_by d) → Matches S S' (pred slot) (step_of M S slot d) (step_of M S' slot d)
   unfolding step_of illegal_write illegal_update
-  of-match slot (Made s) a = slots-match slot (pred slot) _ _ (matches M S S' (pred slot) s a)
-  of-match slot (IllegalWrite c) a =
+  of-match slot (Ok s) a = slots-match slot (pred slot) _ _ (matches M S S' (pred slot) s a)
+  of-match slot (Err (IllegalWrite c)) a =
       slots-match slot (pred slot) _ _
       (rw (← a.slot)
       (both-open (slot_at S (pred slot)) _ _ λ start reads writes x. inside a c _ _ (both-refused {r = IllegalValue} refl (tt, tt))))
-  of-match slot (IllegalUpdate c) a =
+  of-match slot (Err (IllegalUpdate c)) a =
       slots-match slot (pred slot) _ _
       (rw (← a.slot)
       (both-twilight (slot_at S (pred slot)) _ _ λ ignoring start commit reads writes x. inside a c _ _ (both-refused {r = IllegalValue} refl (tt, tt))))
-  of-match slot Unknown a = both-refused {r = NoSuchStep} refl (tt, tt)
+  of-match slot (Err Unknown) a = both-refused {r = NoSuchStep} refl (tt, tt)
 
   pub calls-match : (a : Call) → Alike S S' (pred a.slot) (call_names a) → Matches S S' (pred a.slot) (step M S a) (step M S' a)
   unfolding step

@@ -13,8 +13,9 @@ use Rattle.value.specs.Legal.{legal_word}
 use Rattle.value.specs.Value.{kind_of, word_of, value_of}
 use Rattle.call.specs.declared.Step.{Step}
 use Rattle.call.specs.declared.Step.TheVariants.{Begin, Read, Write, Close, Lock, Enter, Reread, Update, Ask, Reload, Ignore, Finish, Publish, GiveUp}
-use Rattle.call.specs.declared.Reply.{Reply}
-use Rattle.call.specs.declared.Reply.TheVariants.{Done, Verdict, Value, NotAllowed, MarkedWritten, NoSuchCell, IllegalValue, OtherKind, LogFull, ReadHeld, ReadNewer, LockHeld, ReloadHeld, LastStamp, Aborted}
+use Rattle.call.specs.declared.Answer.{Answer}
+use Rattle.call.specs.declared.Answer.TheVariants.{Done, Verdict, Value, Aborted}
+use Rattle.call.specs.declared.Refusal.TheVariants.{NotAllowed, MarkedWritten, NoSuchCell, IllegalValue, OtherKind, LogFull, ReadHeld, ReadNewer, LockHeld, ReloadHeld, LastStamp}
 use Rattle.slot.specs.declared.ReadEntry.{ReadEntry}
 use Rattle.slot.specs.declared.WriteEntry.{WriteEntry}
 use Rattle.slot.specs.Layout.{read_capacity, write_capacity, no_read, no_write}
@@ -92,27 +93,27 @@ module _ {S S' : State} {i : ℕ} {names : ℕ → Bool} (a : Alike S S' i names
       both-refuse _ _ LastStamp LastStamp o o' (ap (λ (n : ℕ). eqb n (last_stamp M)) a.clock) refl (tt, tt) (λ e. m)
 
   -- nothing changes; and a log answers for the named cell
-  stays : (r r' : Reply) → r ≡ r' → Acceptance r → Matches S S' i (accepted r S) (accepted r' S')
+  stays : (r r' : Answer) → r ≡ r' → Acceptance r → Matches S S' i (accepted r S) (accepted r' S')
   stays r r' e code = both-accepted e code (record { clock = a.clock; slot = λ n. a.slot; cells = λ c q. q })
 
   answers : (c w : ℕ) → names c ≡ true → Matches S S' i (accepted (answer S c w) S) (accepted (answer S' c w) S')
   answers c w n = stays (answer S c w) (answer S' c w) (ap (λ (y : Cell). Value (value_of y.kind w)) (named c n)) tt
 
   -- the slot turns, and cells that were the same stay so; or no cell changes; or all that the slot holds are freed
-  turns : (r r' : Reply) (k k' : ℕ) (cells cells' : List Cell) (x x' : Slot) → r ≡ r' → Acceptance r → k ≡ k' → x ≡ x'
+  turns : (r r' : Answer) (k k' : ℕ) (cells cells' : List Cell) (x x' : Slot) → r ≡ r' → Acceptance r → k ≡ k' → x ≡ x'
       → ((c : ℕ) → cell_at S c ≡ cell_at S' c → get_or cells c no_cell ≡ get_or cells' c no_cell)
       → Matches S S' i (accepted r (turn S i k cells x)) (accepted r' (turn S' i k' cells' x'))
   turns r r' k k' cells cells' x x' e code p q f =
       both-accepted e code (record { clock = p; slot = λ n. set_same S.slots S'.slots i i x x' idle n (λ h. q) a.slot; cells = f })
 
-  steady : (r r' : Reply) (x x' : Slot) → r ≡ r' → Acceptance r → x ≡ x'
+  steady : (r r' : Answer) (x x' : Slot) → r ≡ r' → Acceptance r → x ≡ x'
       → Matches S S' i (accepted r (turn S i S.clock S.cells x)) (accepted r' (turn S' i S'.clock S'.cells x'))
   steady r r' x x' e code q = turns r r' S.clock S'.clock S.cells S'.cells x x' e code a.clock q (λ c p. p)
 
   done : (x : Slot) → Matches S S' i (accepted Done (turn S i S.clock S.cells x)) (accepted Done (turn S' i S'.clock S'.cells x))
   done x = steady Done Done x x refl tt refl
 
-  frees : (r : Reply) → Acceptance r
+  frees : (r : Answer) → Acceptance r
       → Matches S S' i (accepted r (turn S i S.clock (free_all i S.cells) idle)) (accepted r (turn S' i S'.clock (free_all i S'.cells) idle))
   frees r code =
       turns r r _ _ _ _ idle idle refl code a.clock refl

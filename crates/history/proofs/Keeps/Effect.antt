@@ -8,7 +8,7 @@ use lib.ListN.{length, get_or, set, length-set}
 use lib.Seq.{get_or-set_other}
 use Rattle.call.specs.declared.Step.{Step}
 use Rattle.call.specs.declared.Step.TheVariants.{Enter, Reload}
-use Rattle.call.specs.declared.Reply.{Reply}
+use Rattle.call.specs.declared.Answer.{Answer}
 use Rattle.slot.specs.Layout.{no_write}
 use Rattle.rules.specs.declared.Cell.{Cell}
 use Rattle.rules.specs.Model.{Model}
@@ -65,7 +65,7 @@ module _ (M : Model) (S : State) (i : ℕ) where
         others = λ j n. refl;
       }
 
-  pub effect : {s : Step} {r : Reply} {T : State} → Move M S i s r T → Effect S i s T
+  pub effect : {s : Step} {r : Answer} {T : State} → Move M S i s r T → Effect S i s T
   effect (began x) = steady _ _ _ none-changed
   effect (read-written x h w) = stays _
   effect (read_again x h w r) = stays _

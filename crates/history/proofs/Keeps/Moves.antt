@@ -3,7 +3,7 @@ use mathlib.Core.Bool.{true}
 use mathlib.Core.Path.{◌≡◌}
 use Prim.Native.Nat.{ℕ, pred, ◌<◌}
 use Rattle.call.specs.declared.Step.{Step}
-use Rattle.call.specs.declared.Reply.{Reply}
+use Rattle.call.specs.declared.Answer.{Answer}
 use Rattle.rules.specs.Model.{Model}
 use Rattle.rules.specs.State.{State}
 use Rattle.rules.specs.StateRight.{state_right}
@@ -16,7 +16,7 @@ use Rattle.history.proofs.Keeps.Back.{right-back}
 use Rattle.history.proofs.Keeps.Steady.{began-right, read_right, wrote_right, closed-right, entered-right, updated-right, reloaded-right, ignored-right, committed-right}
 use Rattle.history.proofs.Keeps.Holding.{locked-right, published-right, freed-right}
 
-pub move-right : (M : Model) (S : State) → Right M S → (i : ℕ) → i < M.slots → {s : Step} {r : Reply} {T : State} → Move M S i s r T → Right M T
+pub move-right : (M : Model) (S : State) → Right M S → (i : ℕ) → i < M.slots → {s : Step} {r : Answer} {T : State} → Move M S i s r T → Right M T
 move-right M S right i h (began x) = began-right M S right i h x
 move-right M S right i h (read-written x inside w) = right
 move-right M S right i h (read_again x inside w r) = right

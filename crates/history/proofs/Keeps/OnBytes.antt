@@ -6,7 +6,7 @@ use Prim.Native.Nat.{ℕ}
 use native.Mathlib.Omega.{arith}
 use lib.Dec.{leb→le}
 use Rattle.wire.specs.Field.{Bytes}
-use Rattle.call.specs.Answer.{reply_code, Refuses}
+use Rattle.call.specs.Answer.{refusal_code, reply_code, Refuses}
 use Rattle.rules.specs.Model.{Model, FitsBytes}
 use Rattle.rules.specs.State.{State}
 use Rattle.rules.specs.StateRight.{state_right}
@@ -34,7 +34,7 @@ module _ (M : Model) where
   answered-reply a (accepted r T) = refl
 
   never-1 : (a : List ℕ) (o : Outcome) → Coded o → reply_code (answered M a o).reply ≡ 1 → ⊥
-  never-1 a (refused r) c e = omega (arith, leb→le 2 (reply_code r) c.0)
+  never-1 a (refused r) c e = omega (arith, leb→le 2 (refusal_code r) c.0)
   never-1 a (accepted r T) c e = acceptance r c (λ z. omega arith, λ z. omega arith)
 
   pub area-never-1 : (a : List ℕ) (call : Call) → well_formed M a ≡ true → reply_code (step_on_bytes M a call).reply ≡ 1 → ⊥

@@ -3,4 +3,4 @@ use Rattle.level.proofs.write_count.Goals as goal
 
 pub returns : goal.returns
 returns c =
-    write-comes _ c.args.set.now c.args.words.now _ _ _ _ _ c.requires.good.0 c.decode-write.ensures c.step.ensures
+    write-comes _ c.args.of.set.now c.args.words.now _ _ _ _ _ c.requires.good.0 c.decode.ensures c.step.ensures

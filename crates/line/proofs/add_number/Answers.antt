@@ -6,4 +6,4 @@ use Rattle.line.proofs.add_number.Goals as goal
 
 pub returns : goal.returns
 returns c =
-    leaves c.put_bytes.ensures (spelt-field _ c.spell-first.new.text c.args.style c.args.number c.spell-first.result c.args.after refl c.spell-first.ensures) c.end_or.ensures
+    leaves c.put_bytes.ensures (spelt-field _ c.spell-first.new.text c.args.style c.args.number c.spell-first.result c.args.after refl c.spell-first.ensures) c.unwrap_or.ensures

@@ -6,5 +6,5 @@ use Rattle.line.proofs.clock_line.Goals as goal
 
 pub returns : goal.returns
 returns c =
-    let name = leaves c.put_bytes.ensures refl c.end_or-clock_at.ensures in
+    let name = leaves c.put_bytes.ensures refl c.unwrap_or-clock_at.ensures in
     puts-same c.put_front.ensures (clock-gathered _ refl c.args.clock name c.add_number-end.ensures)

@@ -1,14 +1,19 @@
--- `put_bytes` meets its contract: the two tests ask for room without a sum that could wrap.
+-- `put_bytes` meets its contract: there is no room where the end is no number of 64 bits or past the buffer, and else the part is put.
+use Prim.Native.Nat.{◌+◌}
+use mathlib.Core.Path.{◌≡◌}
 use native.Mathlib.Omega.{arith}
+use lib.ListN.{length}
 use Rattle.line.proofs.Gather.{no_room, room}
 use Rattle.line.proofs.put_bytes.Goals as goal
 
-pub returns-then-s-part : goal.returns-then-s-part
-returns-then-s-part c = no_room _ _ _ (omega arith)
+pub returns-in_err-end : goal.returns-in_err-end
+returns-in_err-end c =
+    rw c.from_residual.ensures (no_room _ _ _ (omega (arith, c.in_err-end.ensures)))
 
-pub returns-then-s-part-2 : goal.returns-then-s-part-2
-returns-then-s-part-2 c = no_room _ _ _ (omega arith)
+pub returns-then-s-end : goal.returns-then-s-end
+returns-then-s-end c = no_room _ _ _ (omega (arith, c.in_ok-end.ensures))
 
 pub returns : goal.returns
 returns c =
-    room _ _ _ _ (omega arith) c.put_part.ensures
+    let end : c.in_ok-end.end ≡ c.args.at + length c.args.part.now = omega (arith, c.in_ok-end.ensures) in
+    rw end (room _ _ _ _ (omega arith) c.put_part.ensures)

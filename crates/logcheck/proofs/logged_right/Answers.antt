@@ -4,10 +4,10 @@ use borrow.Author.Tests.{le-ltb}
 use Rattle.logcheck.proofs.CellPlaces.{logged-place, logged-past}
 use Rattle.logcheck.proofs.logged_right.Goals as goal
 
-pub returns-then-c-n : goal.returns-then-c-n
-returns-then-c-n c =
-    c.legal_at.ensures ∙ logged-place c.args.n c.args.s.now c.requires.0 c.args.c _ c.if-c-n.true
+pub returns-then-c-area : goal.returns-then-c-area
+returns-then-c-area c =
+    c.legal_at.ensures ∙ logged-place c.args.area.cells c.args.area.bytes.now c.args.area.framed c.args.c _ c.if-c-area.true
 
-pub returns-else-c-n : goal.returns-else-c-n
-returns-else-c-n c =
-    le-ltb _ _ c.if-c-n.false ∙ logged-past c.args.n c.args.s.now c.requires.0 c.args.c _ c.if-c-n.false
+pub returns-else-c-area : goal.returns-else-c-area
+returns-else-c-area c =
+    le-ltb _ _ c.if-c-area.false ∙ logged-past c.args.area.cells c.args.area.bytes.now c.args.area.framed c.args.c _ c.if-c-area.false

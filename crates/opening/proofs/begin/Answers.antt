@@ -5,21 +5,17 @@ use Rattle.rules.specs.Model.{controller}
 use Rattle.rules.specs.State.{slot_at}
 use Rattle.rules.specs.Layout.{lay}
 use Rattle.area.specs.Good.{state_in}
-use Rattle.ways.proofs.Fields.{other, same}
-use Rattle.ways.proofs.Phase.{is-idle}
-use Rattle.ways.proofs.Done.{refuses, leaves}
-use Rattle.opening.proofs.Ways.{begun-stands, begin-4, begin-0}
+use Rattle.ways.proofs.Phases.{is-idle}
+use Rattle.ways.proofs.Done.{leaves}
+use Rattle.opening.proofs.Ways.{begun-stands, begin-0}
 use Rattle.opening.proofs.begin.Goals as goal
-
-pub returns-then-phase_at-ne0 : goal.returns-then-phase_at-ne0
-returns-then-phase_at-ne0 c = refuses _ (begin-4 controller _ _ (other c.phase_at.ensures c.if-phase_at-ne0.true))
 
 pub store_fields-requires-clause-v_value : goal.store_fields-requires-clause-v_value
 store_fields-requires-clause-v_value c =
-    let idle = ap lay (is-idle (slot_at (state_in c.args.s.now) c.args.i) _ refl (same c.phase_at.ensures c.if-phase_at-ne0.false)) in
-    (begun-stands (begun-fields _ _ idle c.begun.ensures)).kept
+    let idle = ap lay (is-idle (slot_at (state_in c.args.s.now) c.args.i) _ refl c.in_ok-in_phase.ensures) in
+    (begun-stands (begun-fields _ _ idle c.begun-begun.ensures)).kept
 
 pub returns : goal.returns
 returns c =
-    let idle = ap lay (is-idle (slot_at (state_in c.args.s.now) c.args.i) _ refl (same c.phase_at.ensures c.if-phase_at-ne0.false)) in
-    leaves _ (begin-0 controller _ _ refl (same c.phase_at.ensures c.if-phase_at-ne0.false) c.clock-start.ensures (begun-fields _ _ idle c.begun.ensures)) c.store_fields.ensures
+    let idle = ap lay (is-idle (slot_at (state_in c.args.s.now) c.args.i) _ refl c.in_ok-in_phase.ensures) in
+    leaves _ (begin-0 controller _ _ refl c.in_ok-in_phase.ensures c.clock.ensures (begun-fields _ _ idle c.begun-begun.ensures)) c.store_fields.ensures

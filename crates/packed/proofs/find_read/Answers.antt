@@ -1,31 +1,29 @@
--- `find_read` meets its contract: before each turn no entry that was passed has the cell, so the log's entry of it is that of what is left.
-use mathlib.Core.Path.{ap}
+-- `find_read` meets its contract: the chain goes through the entries of the read log.
+use mathlib.Core.Path.{◌∙◌, refl, ap, sym}
+use Rattle.std.specs.List.{find}
+use Rattle.std.proofs.Common.{rules}
+use Rattle.std.proofs.lemmas.Iterator.{YieldsList-from_range, YieldsList-from_map}
+use Rattle.std.proofs.lemmas.Iterator.Adapters.{option_map_id}
+use Rattle.std.proofs.lemmas.Iterator.Consumers.{YieldsList-at}
+use Rattle.std.proofs.lemmas.Iterator.Search.{find_from_yields_List}
+use borrow.Author.Tests.{tests}
+use lib.Dec.{eqb}
 use native.Mathlib.Omega.{arith}
-use borrow.Author.Tests.{eq-eqb, ne_eqb, ltb-false}
-use Rattle.slot.specs.Layout.{no_read}
-use Rattle.slot.specs.Logs.{read_entry}
-use Rattle.slot.specs.Operations.{read_found}
-use Rattle.packed.proofs.InLog.{reads-counted, reads_sized, sought-start, entry_next, entry_found, entry-none, entry-out}
+use Rattle.slot.specs.Logs.{read_log, read_entry}
+use Rattle.slot.specs.declared.ReadEntry.{ReadEntry}
+use Rattle.slot.proofs.Search.{find-listed}
+use Rattle.packed.specs.Places.{slot_in, read_entry_at}
+use Rattle.packed.proofs.InLog.{reads-listed}
 use Rattle.packed.proofs.find_read.Goals as goal
 
-pub loop-i-init : goal.loop-i-init
-loop-i-init c = sought-start (reads_sized c.args.width c.args.at c.args.s.now)
-
-pub returns-then-e-cell : goal.returns-then-e-cell
+pub returns : goal.returns
 unfolding read_entry
-returns-then-e-cell c =
-    ap read_found (entry_found no_read c.loop-i.invariant (reads-counted c.args.width c.args.at c.args.s.now) c.if-i-count.true (omega arith) c.read_at-e.ensures (eq-eqb _ _ c.if-e-cell.true))
-
-pub loop-i-preserved : goal.loop-i-preserved
-loop-i-preserved c =
-    entry_next no_read c.loop-i.invariant c.if-i-count.true (omega arith) c.read_at-e.ensures (ne_eqb _ _ c.if-e-cell.false)
-
-pub returns-else-i-count : goal.returns-else-i-count
-unfolding read_entry
-returns-else-i-count c =
-    ap read_found (entry-none no_read c.loop-i.invariant (reads-counted c.args.width c.args.at c.args.s.now) (omega (arith, ltb-false)))
-
-pub returns-after-loop-i : goal.returns-after-loop-i
-unfolding read_entry
-returns-after-loop-i c =
-    ap read_found (entry-out no_read c.loop-i.invariant (reads-counted c.args.width c.args.at c.args.s.now) (omega arith))
+returns c =
+    sym (option_map_id c.find.result)
+    ∙ find_from_yields_List (λ (e : ReadEntry). eqb e.cell c.args.cell) _ _ c.find.result c.find.ensures.ran
+    (YieldsList-from_map _ (read_entry_at c.args.width c.args.at c.args.s.now)
+    (YieldsList-at c.map.ensures.source (YieldsList-from_range 0 c.min-count.result c.min-count.result refl (omega arith)))
+    c.map.ensures.closure (λ x r q k. search rules))
+    (λ x b q k. search (rules, tests))
+    ∙ ap (find (λ (e : ReadEntry). eqb e.cell c.args.cell)) (reads-listed c.args.width c.args.at c.args.s.now c.min-count.ensures c.from.ensures)
+    ∙ find-listed (λ (e : ReadEntry). eqb e.cell c.args.cell) (read_log (slot_in c.args.width c.args.at c.args.s.now))

@@ -1,23 +1,17 @@
--- `put_reads` meets its contract: before each turn the first `i` entries are put, one after the other.
-use mathlib.Core.Path.{refl, sym, ◌∙◌}
-use mathlib.Core.List.{List}
-use Prim.Native.Nat.{ℕ, ◌+◌, ◌*◌}
+-- `put_reads` meets its contract: the entries of the log are put one after the other.
+use mathlib.Core.Path.{◌∙◌}
 use native.Mathlib.Omega.{arith}
 use lib.ListN.{get_or}
+use Rattle.wire.specs.Part.{splice}
 use Rattle.wire.specs.Table.{cat}
-use Rattle.wire.proofs.Laws.Part.{splice-nil, splice-part}
-use Rattle.slot.specs.Layout.{no_read, read_bytes, read_size}
-use Rattle.slot.proofs.Entry.{length-read_bytes}
+use Rattle.slot.specs.Layout.{no_read, read_bytes, read_capacity, reads_at}
 use Rattle.packed.proofs.put_reads.Goals as goal
+use mathlib.Core.Path.{◌≡◌}
+use Prim.Native.Nat.{◌+◌, ◌*◌}
+use lib.ListN.{length}
 
-pub loop-i-init : goal.loop-i-init
-unfolding cat
-loop-i-init c = (omega arith, refl, sym (splice-nil _ _))
-
-pub loop-i-preserved : goal.loop-i-preserved
-loop-i-preserved c =
-    let part : ℕ → List ℕ = (λ j. read_bytes (get_or c.args.v.reads j no_read)) in (
-      omega arith,
-      c.put_read_entry.auto.s ∙ c.loop-i.invariant.1,
-      splice-part read_size part (λ j. length-read_bytes (get_or c.args.v.reads j no_read)) c.args.s.now (c.args.at + 5 + 2 * c.args.width) c.loop-i.i c.loop-i.s c.put_read_entry.new.s (omega arith) c.loop-i.invariant.2 c.put_read_entry.ensures,
-    )
+pub returns : goal.returns
+returns c =
+    let size : length c.args.v.reads ≡ read_capacity = omega arith in
+    let place : c.args.at + 5 + 2 * c.args.width ≡ c.args.at + reads_at c.args.width = omega arith in
+    c.put_log.ensures no_read ∙ (λ i. splice c.args.s.now (place i) (cat (size i) (λ k. read_bytes (get_or c.args.v.reads k no_read))))

@@ -8,5 +8,5 @@ use Rattle.packed.proofs.read_at.Goals as goal
 pub returns : goal.returns
 unfolding slot_of
 returns c =
-    c.read_of.ensures
+    c.read.ensures
     ∙ entry-from read_capacity read_size read_of c.args.s.now c.args.at (reads_at c.args.width) _ (omega arith) no_read c.args.k c.requires.2

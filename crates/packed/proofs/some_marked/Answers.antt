@@ -1,31 +1,26 @@
--- `some_marked` meets its contract: before each turn no entry that was passed is marked, so the log has a marked entry if what is left has one.
-use mathlib.Core.Path.{sym}
+-- `some_marked` meets its contract: the chain goes through the entries of the read log.
+use mathlib.Core.Path.{◌∙◌, refl, ap}
+use Rattle.std.proofs.Common.{rules}
+use Rattle.std.proofs.lemmas.Iterator.{YieldsList-from_range, YieldsList-from_map}
+use Rattle.std.proofs.lemmas.Iterator.Consumers.{YieldsList-at}
+use Rattle.std.proofs.lemmas.Iterator.Search.{any_from_yields_List}
+use borrow.Author.Tests.{tests}
 use native.Mathlib.Omega.{arith}
-use borrow.Author.Tests.{ltb-false}
-use Rattle.slot.specs.Layout.{no_read}
+use Rattle.slot.specs.Logic.{any}
 use Rattle.slot.specs.Logs.{some_marked}
-use Rattle.slot.proofs.Search.{of_none, of_some}
-use Rattle.packed.proofs.InLog.{reads-counted, reads_sized, sought-start, entry_next, entry_found, entry-none, entry-out}
+use Rattle.slot.specs.declared.ReadEntry.{ReadEntry}
+use Rattle.slot.proofs.Logic.{any-listed}
+use Rattle.packed.specs.Places.{read_entry_at}
+use Rattle.packed.proofs.InLog.{reads-listed}
 use Rattle.packed.proofs.some_marked.Goals as goal
 
-pub loop-i-init : goal.loop-i-init
-loop-i-init c = sought-start (reads_sized c.args.width c.args.at c.args.s.now)
-
-pub returns-then-e : goal.returns-then-e
+pub returns : goal.returns
 unfolding some_marked
-returns-then-e c =
-    sym (of_some _ _ _ (sym (entry_found no_read c.loop-i.invariant (reads-counted c.args.width c.args.at c.args.s.now) c.if-i-count.true (omega arith) c.read_at-e.ensures c.if-e.true)))
-
-pub loop-i-preserved : goal.loop-i-preserved
-loop-i-preserved c =
-    entry_next no_read c.loop-i.invariant c.if-i-count.true (omega arith) c.read_at-e.ensures c.if-e.false
-
-pub returns-else-i-count : goal.returns-else-i-count
-unfolding some_marked
-returns-else-i-count c =
-    sym (of_none _ _ (sym (entry-none no_read c.loop-i.invariant (reads-counted c.args.width c.args.at c.args.s.now) (omega (arith, ltb-false)))))
-
-pub returns-after-loop-i : goal.returns-after-loop-i
-unfolding some_marked
-returns-after-loop-i c =
-    sym (of_none _ _ (sym (entry-out no_read c.loop-i.invariant (reads-counted c.args.width c.args.at c.args.s.now) (omega arith))))
+returns c =
+    any_from_yields_List (λ (e : ReadEntry). e.mark) _ _ _ c.any.ensures.ran
+    (YieldsList-from_map _ (read_entry_at c.args.width c.args.at c.args.s.now)
+    (YieldsList-at c.map.ensures.source (YieldsList-from_range 0 c.min-count.result c.min-count.result refl (omega arith)))
+    c.map.ensures.closure (λ x r q k. search rules))
+    (λ x b q k. search (rules, tests))
+    ∙ any-listed (λ (e : ReadEntry). e.mark) _
+    ∙ ap (any (λ (e : ReadEntry). e.mark)) (reads-listed c.args.width c.args.at c.args.s.now c.min-count.ensures c.from.ensures)

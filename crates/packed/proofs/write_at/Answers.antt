@@ -8,5 +8,5 @@ use Rattle.packed.proofs.write_at.Goals as goal
 pub returns : goal.returns
 unfolding slot_of
 returns c =
-    c.write_of.ensures
+    c.read.ensures
     ∙ entry-from write_capacity write_size write_of c.args.s.now c.args.at (writes_at c.args.width) _ (omega arith) no_write c.args.k c.requires.2

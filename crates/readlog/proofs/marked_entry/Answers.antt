@@ -8,5 +8,5 @@ use Rattle.readlog.proofs.marked_entry.Goals as goal
 pub returns : goal.returns
 unfolding with_mark
 returns c =
-    let mark = c.outdated.ensures ∙ ap (λ (x : Cell). held_by_other c.args.i x or newer c.args.start x) c.cell_at-x.ensures in
+    let mark = c.outdated.ensures ∙ ap (λ (x : Cell). held_by_other c.args.slot.index x or newer c.args.start x) c.cell_at-x.ensures in
     λ j. record { cell = c.args.e.cell; mark = mark j; word = c.args.e.word }

@@ -6,8 +6,8 @@ use Rattle.readlog.proofs.marked_written.Goals as goal
 
 pub marked_written-requires : goal.marked_written-requires
 marked_written-requires c =
-    indexed_of c.requires.0 c.requires.1 c.slot_offset.ensures
+    indexed_of c.args.slot.good c.args.slot.below c.offset.ensures
 
 pub returns : goal.returns
 returns c =
-    read-of-slot has_marked_written c.requires.0 c.requires.1 c.slot_offset.ensures c.marked_written.ensures
+    read-of-slot has_marked_written c.args.slot.good c.args.slot.below c.offset.ensures c.marked_written.ensures

@@ -6,12 +6,8 @@ use Rattle.readlog.proofs.outdated.Goals as goal
 
 pub returns-then-held_by_other : goal.returns-then-held_by_other
 unfolding ◌or◌
-returns-then-held_by_other c =
-    let held = sym c.held_by_other.ensures ∙ c.if-held_by_other.true in
-    rw held
+returns-then-held_by_other c = c.if-held_by_other.true ∙ rw (sym c.held_by_other.ensures ∙ c.if-held_by_other.true)
 
-pub returns : goal.returns
+pub returns-else-held_by_other : goal.returns-else-held_by_other
 unfolding ◌or◌ newer
-returns c =
-    let held = sym c.held_by_other.ensures ∙ c.if-held_by_other.false in
-    rw held
+returns-else-held_by_other c = rw (sym c.held_by_other.ensures ∙ c.if-held_by_other.false)

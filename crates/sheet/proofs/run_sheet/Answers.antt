@@ -1,53 +1,14 @@
--- `run_sheet` meets its contract: the ways out are too little room, a bad sheet, and a good one, whose steps are run.
-use mathlib.Core.Path.{sym}
+-- `run_sheet` meets its contract: of a good sheet the steps are run, and all lines fit.
 use native.Mathlib.Omega.{arith}
-use lib.Seq.{length-take-le}
-use Rattle.stage.proofs.Ready.{when-ready, when-bad, when-short}
-use Rattle.stage.proofs.Printing.{short-out, short-area, bad-run}
-use Rattle.sheet.specs.Output.{output}
-use Rattle.sheet.specs.Whole.{most_output}
+use Rattle.stage.proofs.RunBy.{printed-by}
+use Rattle.sheet.specs.Parts.{StepsRun}
 use Rattle.sheet.proofs.Whole.{bad-output, ran_on}
 use Rattle.sheet.proofs.run_sheet.Goals as goal
 
-pub returns-then-out-lt-MOST_OUTPUT : goal.returns-then-out-lt-MOST_OUTPUT
-returns-then-out-lt-MOST_OUTPUT c = short-out _ _ _ _ _ (omega arith)
-
-pub slice_bounds-run_steps-count : goal.slice_bounds-run_steps-count
-slice_bounds-run_steps-count c =
-    let told = when-ready c.set_up-stage.ensures c.in-Ready.is in
-    omega arith
-
-pub slice_bounds-run_steps-start : goal.slice_bounds-run_steps-start
-slice_bounds-run_steps-start c =
-    let told = when-ready c.set_up-stage.ensures c.in-Ready.is in
-    omega arith
-
-pub slice_bounds-run_steps-end : goal.slice_bounds-run_steps-end
-slice_bounds-run_steps-end c =
-    let told = when-ready c.set_up-stage.ensures c.in-Ready.is in
-    omega arith
-
-pub slice_bounds-run_steps-end-in-Ready : goal.slice_bounds-run_steps-end-in-Ready
-slice_bounds-run_steps-end-in-Ready c =
-    let told = when-ready c.set_up-stage.ensures c.in-Ready.is in
-    omega arith
-
-pub slice_bounds-run_steps-end-in-Ready-2 : goal.slice_bounds-run_steps-end-in-Ready-2
-slice_bounds-run_steps-end-in-Ready-2 c =
-    let told = when-ready c.set_up-stage.ensures c.in-Ready.is in
-    sym (length-take-le _ _ told.fits)
-
-pub returns-in-Ready : goal.returns-in-Ready
-returns-in-Ready c =
-    let told = when-ready c.set_up-stage.ensures c.in-Ready.is in
-    ran_on _ _ _ (omega arith) told c.run_steps.auto.area c.run_steps.ensures
-
-pub returns-in-Bad : goal.returns-in-Bad
-returns-in-Bad c =
-    let bad = when-bad c.set_up-stage.ensures c.in-Bad.is in
-    let s = c.args.sheet.now in
-    bad-run most_output (output s) s c.args.area.now c.args.out.now (omega arith) (omega arith) (bad-output s c.args.area.now bad) bad c.bad_sheet.ensures
-
-pub returns-in-Short : goal.returns-in-Short
-returns-in-Short c =
-    short-area _ _ _ _ _ (when-short c.set_up-stage.ensures c.in-Short.is)
+pub returns : goal.returns
+returns c =
+    printed-by _ _ _ _ _ _ (omega arith) (bad-output _)
+    (λ right room e b t made.
+    let run : StepsRun made.steps.now made.area.now made.buffer.now e made.area_left.now made.buffer_left.now = made.met in
+    ran_on _ right room (rw (made.shows.0, made.shows.1, made.shows.2, made.leaves.0, made.leaves.1) at run))
+    c.run.ensures

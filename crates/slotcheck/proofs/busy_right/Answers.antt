@@ -7,37 +7,29 @@ use Rattle.slotcheck.proofs.busy_right.Goals as goal
 pub returns-then-not-counts_right : goal.returns-then-not-counts_right
 returns-then-not-counts_right c =
     stop _ _ _ (fails c.counts_right.ensures c.if-not-counts_right.true) refl
-    ∙ busy-order c.args.s.now c.args.clock c.args.t.now
+    ∙ busy-order c.args.area.bytes.now c.args.clock c.args.t.bytes.now
 
-pub logs_right-requires : goal.logs_right-requires
-logs_right-requires c =
-    (c.requires.0, counted c.args.t.now c.requires.1 (passes c.counts_right.ensures c.if-not-counts_right.false))
+pub invariant_of-counted : goal.invariant_of-counted
+invariant_of-counted c =
+    record { counted = counted c.args.t.bytes.now c.args.t.whole (passes c.counts_right.ensures c.if-not-counts_right.false) }
 
 pub returns-then-not-logs_right : goal.returns-then-not-logs_right
 returns-then-not-logs_right c =
     pass _ _ _ (passes c.counts_right.ensures c.if-not-counts_right.false) (stop _ _ _ (fails c.logs_right.ensures c.if-not-logs_right.true) refl)
-    ∙ busy-order c.args.s.now c.args.clock c.args.t.now
+    ∙ busy-order c.args.area.bytes.now c.args.clock c.args.t.bytes.now
 
 pub returns-then-not-numbers_right : goal.returns-then-not-numbers_right
 returns-then-not-numbers_right c =
     pass _ _ _ (passes c.counts_right.ensures c.if-not-counts_right.false)
     (pass _ _ _ (passes c.logs_right.ensures c.if-not-logs_right.false) (stop _ _ _ (fails c.numbers_right.ensures c.if-not-numbers_right.true) refl))
-    ∙ busy-order c.args.s.now c.args.clock c.args.t.now
-
-pub unused_zero-requires : goal.unused_zero-requires
-unused_zero-requires c =
-    counted c.args.t.now c.requires.1 (passes c.counts_right.ensures c.if-not-counts_right.false)
+    ∙ busy-order c.args.area.bytes.now c.args.clock c.args.t.bytes.now
 
 pub returns-then-not-unused_zero : goal.returns-then-not-unused_zero
 returns-then-not-unused_zero c =
     pass _ _ _ (passes c.counts_right.ensures c.if-not-counts_right.false)
     (pass _ _ _ (passes c.logs_right.ensures c.if-not-logs_right.false)
     (pass _ _ _ (passes c.numbers_right.ensures c.if-not-numbers_right.false) (stop _ _ _ (fails c.unused_zero.ensures c.if-not-unused_zero.true) refl)))
-    ∙ busy-order c.args.s.now c.args.clock c.args.t.now
-
-pub marked_right-requires : goal.marked_right-requires
-marked_right-requires c =
-    (counted c.args.t.now c.requires.1 (passes c.counts_right.ensures c.if-not-counts_right.false), passes c.unused_zero.ensures c.if-not-unused_zero.false)
+    ∙ busy-order c.args.area.bytes.now c.args.clock c.args.t.bytes.now
 
 pub returns-then-not-marked_right : goal.returns-then-not-marked_right
 returns-then-not-marked_right c =
@@ -45,11 +37,11 @@ returns-then-not-marked_right c =
     (pass _ _ _ (passes c.logs_right.ensures c.if-not-logs_right.false)
     (pass _ _ _ (passes c.numbers_right.ensures c.if-not-numbers_right.false)
     (pass _ _ _ (passes c.unused_zero.ensures c.if-not-unused_zero.false) (stop _ _ _ (fails c.marked_right.ensures c.if-not-marked_right.true) refl))))
-    ∙ busy-order c.args.s.now c.args.clock c.args.t.now
+    ∙ busy-order c.args.area.bytes.now c.args.clock c.args.t.bytes.now
 
 pub no_update_lost-requires : goal.no_update_lost-requires
 no_update_lost-requires c =
-    indexed c.args.s.now c.args.t.now c.args.n c.requires.0 (counted c.args.t.now c.requires.1 (passes c.counts_right.ensures c.if-not-counts_right.false)) (passes c.logs_right.ensures c.if-not-logs_right.false)
+    indexed c.args.area.bytes.now c.args.t.bytes.now c.args.area.cells c.args.area.framed (counted c.args.t.bytes.now c.args.t.whole (passes c.counts_right.ensures c.if-not-counts_right.false)) (passes c.logs_right.ensures c.if-not-logs_right.false)
 
 pub returns : goal.returns
 returns c =
@@ -57,4 +49,4 @@ returns c =
     (pass _ _ _ (passes c.logs_right.ensures c.if-not-logs_right.false)
     (pass _ _ _ (passes c.numbers_right.ensures c.if-not-numbers_right.false)
     (pass _ _ _ (passes c.unused_zero.ensures c.if-not-unused_zero.false) (pass _ _ _ (passes c.marked_right.ensures c.if-not-marked_right.false) c.no_update_lost.ensures))))
-    ∙ busy-order c.args.s.now c.args.clock c.args.t.now
+    ∙ busy-order c.args.area.bytes.now c.args.clock c.args.t.bytes.now

@@ -18,6 +18,6 @@ returns c =
     let x = c.args.x in
     let one = splice-set a at x.kind (omega arith) in
     let two = splice-store a at (x.kind ∷ []) (set a at x.kind) (at + 1) x.holder (omega arith) refl one in
-    let three = splice-next a at (x.kind ∷ x.holder ∷ []) (to_be 4 x.word) _ c.put.new.s (at + 2) (omega arith) refl two c.put.ensures in
+    let three = splice-next a at (x.kind ∷ x.holder ∷ []) (to_be 4 x.word) _ c.put.new.s (at + 2) (omega arith) refl two (rw c.from.ensures at c.put.ensures) in
     splice-next a at (x.kind ∷ x.holder ∷ to_be 4 x.word) (to_be 8 x.stamp) c.put.new.s c.put-2.new.s (at + 6) (omega arith)
     (rw length-to_be (omega arith)) three c.put-2.ensures

@@ -19,5 +19,5 @@ returns c =
     let l = c.args.s.now in
     let i = c.args.i in
     slot-stored (freed_cells i (state_in l)) _ i empty c.free_cells.new.s c.clear.new.s _ (slots_read controller l)
-    (length-map (state_in l).cells _ ∙ count-read controller l) c.requires.good.1 (ap lay (view-lay idle)) c.free_cells.ensures c.slot_offset-at.ensures c.clear.ensures
+    (length-map (state_in l).cells _ ∙ count-read controller l) c.requires.good.1 (ap lay (view-lay idle)) c.free_cells.ensures c.offset-at.ensures c.clear.ensures
     ∙ ap (stored_freed l i) (sym c.requires.v_value)

@@ -1,18 +1,7 @@
 -- `store_writes` meets its contract: the fields and the write log are put, and the read log between them stays.
-use native.Mathlib.Omega.{arith}
-use Rattle.slot.specs.Fields.{with_reads_of}
-use Rattle.rules.specs.Model.{controller}
-use Rattle.rules.specs.State.{slot_at}
-use Rattle.rules.specs.Layout.{lay}
-use Rattle.rules.proofs.AreaRead.{count-read, slots_read}
-use Rattle.area.specs.Good.{state_in}
-use Rattle.area.proofs.Good.{good-kept}
-use Rattle.stores.proofs.Stored.{slot-stored, writes-put}
+use Rattle.stores.proofs.Stored.{writes-stored}
 use Rattle.stores.proofs.store_writes.Goals as goal
 
 pub returns : goal.returns
 returns c =
-    let v = lay (slot_at (state_in c.args.s.now) c.args.i) in
-    slot-stored (state_in c.args.s.now) _ c.args.i (with_reads_of v c.args.v) c.args.s.now _ _ (slots_read controller c.args.s.now) (count-read controller c.args.s.now) c.requires.good.1 c.requires.v_value (good-kept c.args.s.now c.requires.good.0) c.slot_offset-at.ensures
-    (writes-put (state_in c.args.s.now) _ c.args.i c.args.s.now _ (slots_read controller c.args.s.now) (count-read controller c.args.s.now) c.requires.good.1 (good-kept c.args.s.now c.requires.good.0) c.slot_offset-at.ensures (omega arith)
-    c.args.v _ _ c.put_fields.ensures c.put_writes.ensures)
+    writes-stored c.requires.good.0 c.requires.good.1 c.offset-at.ensures c.args.v _ _ c.put_fields.ensures c.requires.v_value c.put_writes.ensures

@@ -1,12 +1,6 @@
-use Prim.Native.Nat.{◌-◌}
-use lib.Dec.{eqb}
-use Rattle.slot.specs.declared.WriteEntry.{WriteEntry}
-use Rattle.slot.specs.Layout.{write_capacity}
-use Rattle.packed.proofs.InLog.{Sought}
+use Rattle.std.proofs.Common.{◌≡◌, take}
+use Rattle.slot.specs.Logs.{write_log, write_entry}
 use Rattle.telling.proofs.find_written.Given as goal
 
-abbrev pub invariant-loop-i : goal.invariant-loop-i
-invariant-loop-i l = Sought (λ (e : WriteEntry). eqb e.cell l.cell) l.log write_capacity l.count l.i
-
-abbrev pub decreases-loop-i : goal.decreases-loop-i
-decreases-loop-i l = write_capacity - l.i
+abbrev pub invariant-loop-e : goal.invariant-loop-e
+invariant-loop-e l = write_entry (take l.e-iterator.n l.e-iterator.iter.rest.now) l.cell ≡ write_entry (write_log l.fn.own) l.cell

@@ -1,24 +1,20 @@
--- `put_cells` meets its contract: before each turn the first `i` cells of the log are put.
-use mathlib.Core.List.{[], ◌∷◌}
-use mathlib.Core.Path.{refl, ◌∙◌}
-use native.Mathlib.Omega.{arith}
-use borrow.Author.Rules.{rules}
-use lib.ListN.{get_or}
-use Rattle.slot.specs.Layout.{no_write}
-use Rattle.line.specs.Line.{field}
-use Rattle.line.proofs.Gather.{leaves-both, leaves-one, leaves_none}
-use Rattle.telling.proofs.Fields.{cells-next}
+-- `put_cells` meets its contract: before each turn, what is put and then what is left of the log is all of it.
+use mathlib.Core.Path.{refl, sym, ap, ◌∙◌}
+use Rattle.line.specs.Gather.{Gathered, written}
+use Rattle.telling.proofs.Fields.{none-left, one-put}
 use Rattle.telling.proofs.put_cells.Goals as goal
 
-pub loop-i-init : goal.loop-i-init
-loop-i-init c =
-    (search rules, refl, omega arith, leaves_none)
+pub loop-e-init : goal.loop-e-init
+loop-e-init c =
+    rw (c.into_iter-e-iterator.ensures.into_iter_gives, c.take-e-items.ensures.source, c.take-e-items.ensures.count, c.iter.ensures.rest, c.from-count.ensures) (record { same = refl; left = refl })
 
-pub loop-i-preserved : goal.loop-i-preserved
-loop-i-preserved c = (
-  c.loop-i.invariant.0,
-  c.put_field.auto.s ∙ c.loop-i.invariant.1,
-  omega arith,
-  rw (cells-next c.args.own.writes c.args.own.writecount c.loop-i.i c.if-i-n.true (omega arith))
-      (leaves-both _ (field (get_or c.args.own.writes c.loop-i.i no_write).cell ∷ []) _ c.loop-i.invariant.3 (leaves-one c.put_field.ensures c.end_or-end.ensures)),
-)
+pub loop-e-preserved : goal.loop-e-preserved
+loop-e-preserved c =
+    let (cut, count) = c.in-Some.ensures.steps in
+    let put = rw c.from.ensures at c.field.ensures.leaves in
+    record { same = c.field.ensures.same ∙ c.loop-e.invariant.same; left = one-put _ _ _ cut count put ∙ c.loop-e.invariant.left }
+
+pub returns : goal.returns
+returns c =
+    let all = sym (none-left _ _ (written c.loop-e.out) (λ h. (c.in-None.ensures.steps h).0)) ∙ c.loop-e.invariant.left in
+    record { same = c.loop-e.invariant.same; leaves = record { end = ap (λ (g : Gathered). g.end) all; bytes = ap (λ (g : Gathered). g.bytes) all } }

@@ -4,29 +4,21 @@ use Rattle.slot.proofs.Laws.Fields.{ignoring-fields}
 use Rattle.rules.specs.Model.{controller}
 use Rattle.rules.specs.State.{slot_at}
 use Rattle.area.specs.Good.{state_in}
-use Rattle.ways.proofs.Fields.{other, same}
-use Rattle.ways.proofs.Done.{refuses, leaves, keeps}
-use Rattle.twilight.proofs.Ways.{ignoring-stands, ignore-4, ignore-15, ignore-0, ignore-none}
+use Rattle.ways.proofs.Done.{leaves, keeps}
+use Rattle.twilight.proofs.Ways.{ignoring-stands, ignore-0, ignore-none}
 use Rattle.twilight.proofs.ignore.Goals as goal
-
-pub returns-then-phase_at-ne3 : goal.returns-then-phase_at-ne3
-returns-then-phase_at-ne3 c = refuses _ (ignore-4 controller _ _ (other c.phase_at.ensures c.if-phase_at-ne3.true))
-
-pub returns-then-marked_written : goal.returns-then-marked_written
-returns-then-marked_written c =
-    refuses _ (ignore-15 controller _ _ refl (same c.phase_at.ensures c.if-phase_at-ne3.false) c.marked_written.ensures c.if-marked_written.true)
 
 pub store_fields-requires-clause-v_value : goal.store_fields-requires-clause-v_value
 store_fields-requires-clause-v_value c =
     let x = slot_at (state_in c.args.s.now) c.args.i in
-    let p = same c.phase_at.ensures c.if-phase_at-ne3.false in
-    (ignoring-stands x _ refl p (ignoring-fields _ c.fields_at-v.ensures p c.ignoring_set.ensures)).kept
+    let p = c.in_ok-in_phase.ensures in
+    (ignoring-stands x _ refl p (ignoring-fields _ c.fields.ensures p c.ignoring_set-ignoring.ensures)).kept
 
 pub returns-then-some_marked : goal.returns-then-some_marked
 returns-then-some_marked c =
-    let p = same c.phase_at.ensures c.if-phase_at-ne3.false in
-    leaves _ (ignore-0 controller _ _ refl p c.marked_written.ensures c.if-marked_written.false c.some_marked.ensures c.if-some_marked.true (ignoring-fields _ c.fields_at-v.ensures p c.ignoring_set.ensures)) c.store_fields.ensures
+    let p = c.in_ok-in_phase.ensures in
+    leaves _ (ignore-0 controller _ _ refl p c.marked_written.ensures c.if-marked_written.false c.some_marked.ensures c.if-some_marked.true (ignoring-fields _ c.fields.ensures p c.ignoring_set-ignoring.ensures)) c.store_fields.ensures
 
 pub returns-else-some_marked : goal.returns-else-some_marked
 returns-else-some_marked c =
-    keeps _ c.requires.0 (ignore-none controller _ _ refl (same c.phase_at.ensures c.if-phase_at-ne3.false) c.marked_written.ensures c.if-marked_written.false c.some_marked.ensures c.if-some_marked.false)
+    keeps _ c.requires.0 (ignore-none controller _ _ refl c.in_ok-in_phase.ensures c.marked_written.ensures c.if-marked_written.false c.some_marked.ensures c.if-some_marked.false)

@@ -1,55 +1,12 @@
-use mathlib.Core.Logic.{inl, inr}
-use native.Mathlib.Omega.{arith}
-use borrow.Author.Rules.{rules}
-use Rattle.area.specs.Good.{Good}
-use Rattle.area.proofs.Good.{good_of}
-use Rattle.logcheck.proofs.Chains.{passes, fails}
 use Rattle.wearset.proofs.Before.{set-length}
-use Rattle.wear.proofs.Boundary.{ill-formed, bad-set, slot-zero, slot-high, slot-busy, levels}
+use Rattle.wear.proofs.Boundary.{levels}
 use Rattle.wear.proofs.crocktendril_wear.Goals as goal
 
-pub returns-then-not-well_formed : goal.returns-then-not-well_formed
-returns-then-not-well_formed c =
-    ill-formed _ _ _ (fails c.well_formed-2.ensures c.if-not-well_formed.true)
+pub invariant_of-level : goal.invariant_of-level
+invariant_of-level c = record { few = (set-length _ _ c.in-Ok.ensures.right).1 }
 
-pub set_right-requires : goal.set_right-requires
-set_right-requires c =
-    good_of _ (λ i. search rules) (passes c.well_formed-2.ensures c.if-not-well_formed.false)
+pub returns-in-Ok : goal.returns-in-Ok
+returns-in-Ok c = levels _ _ _ c.in-Ok.ensures _ _ c.level.ensures
 
-pub returns-then-not-set_right : goal.returns-then-not-set_right
-returns-then-not-set_right c =
-    let good : Good c.args.s.now = good_of _ (λ i. search rules) (passes c.well_formed-2.ensures c.if-not-well_formed.false) in
-    bad-set _ _ _ good (fails c.set_right.ensures c.if-not-set_right.true)
-
-pub returns-then-slot-eq0 : goal.returns-then-slot-eq0
-returns-then-slot-eq0 c =
-    let good : Good c.args.s.now = good_of _ (λ i. search rules) (passes c.well_formed-2.ensures c.if-not-well_formed.false) in
-    let right = passes c.set_right.ensures c.if-not-set_right.false in
-    elim c.then-slot-eq0.either [
-      | inl none-such ↦ slot-zero _ _ _ good right none-such
-      | inr high ↦ slot-high _ _ _ good right high.1
-    ]
-
-pub open_and_empty-requires : goal.open_and_empty-requires
-open_and_empty-requires c =
-    let good : Good c.args.s.now = good_of _ (λ i. search rules) (passes c.well_formed-2.ensures c.if-not-well_formed.false) in
-    (good, omega (arith, c.if-slot-gt-SLOTS.false))
-
-pub returns-then-not-open_and_empty : goal.returns-then-not-open_and_empty
-returns-then-not-open_and_empty c =
-    let good : Good c.args.s.now = good_of _ (λ i. search rules) (passes c.well_formed-2.ensures c.if-not-well_formed.false) in
-    let right = passes c.set_right.ensures c.if-not-set_right.false in
-    slot-busy _ _ _ good right (omega arith) c.if-slot-gt-SLOTS.false (fails c.open_and_empty.ensures c.if-not-open_and_empty.true)
-
-pub level-requires : goal.level-requires
-level-requires c =
-    let good : Good c.args.s.now = good_of _ (λ i. search rules) (passes c.well_formed-2.ensures c.if-not-well_formed.false) in
-    let right = passes c.set_right.ensures c.if-not-set_right.false in
-    let few = set-length _ _ right in
-    (good, few.1, omega (arith, few.0))
-
-pub returns : goal.returns
-returns c =
-    let good : Good c.args.s.now = good_of _ (λ i. search rules) (passes c.well_formed-2.ensures c.if-not-well_formed.false) in
-    let right = passes c.set_right.ensures c.if-not-set_right.false in
-    levels _ _ _ good right (omega arith) c.if-slot-gt-SLOTS.false (passes c.open_and_empty.ensures c.if-not-open_and_empty.false) _ _ c.level.ensures
+pub returns-in-Err : goal.returns-in-Err
+returns-in-Err c = rw c.number.ensures c.in-Err.ensures

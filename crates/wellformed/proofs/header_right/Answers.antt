@@ -22,7 +22,7 @@ returns-then-get-s c =
 
 pub returns-then-s-eq1 : goal.returns-then-s-eq1
 returns-then-s-eq1 c =
-    pass _ _ _ (eq-eqb _ _ c.if-s-eq1.true) (c.count_right.ensures ∙ ap (cell_count_right controller) c.index-n.ensures.0)
+    pass _ _ _ (eq-eqb _ _ c.if-s-eq1.true) (c.count_right.ensures ∙ ap (cell_count_right controller) c.from-n.ensures)
     ∙ header-rest c.args.s.now (omega arith) (omega arith)
 
 pub returns-else-s-eq1 : goal.returns-else-s-eq1

@@ -24,10 +24,10 @@ pub get-clock-requires : goal.get-clock-requires
 get-clock-requires c =
     let f = framed _ c.args.s.now refl (passes c.header_right.ensures c.if-not-header_right.false) in omega arith
 
-pub parts_right-requires : goal.parts_right-requires
-parts_right-requires c =
+pub invariant_of-area : goal.invariant_of-area
+invariant_of-area c =
     let header = passes c.header_right.ensures c.if-not-header_right.false in
-    framed _ c.args.s.now c.index-n.ensures.0 header
+    record { framed = framed _ c.args.s.now c.from.ensures header }
 
 pub returns-then-not-parts_right : goal.returns-then-not-parts_right
 returns-then-not-parts_right c =
@@ -41,10 +41,7 @@ pub cells_held-requires : goal.cells_held-requires
 unfolding parts_right
 cells_held-requires c =
     let l = c.args.s.now in
-    let header = passes c.header_right.ensures c.if-not-header_right.false in (
-      framed _ l c.index-n.ensures.0 header,
-      and_left _ _ (passes (c.parts_right.ensures ∙ ap (λ (k : ℕ). parts_right k l) c.get-clock.ensures) c.if-not-parts_right.false),
-    )
+    and_left _ _ (passes (c.parts_right.ensures ∙ ap (λ (k : ℕ). parts_right k l) c.get-clock.ensures) c.if-not-parts_right.false)
 
 pub returns : goal.returns
 returns c =

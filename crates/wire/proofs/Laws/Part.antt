@@ -7,6 +7,7 @@ use native.Mathlib.Nat.{zero-add, add-zero, add_assoc, mul-suc, mul-le-mul_left}
 use native.Mathlib.Numerals.{add-one}
 use native.Mathlib.Omega.{arith}
 use borrow.Author.Count.{below_more}
+use borrow.Rule.Slice.PartMut.{put_mid}
 use lib.ListN.{length, get_or, take, drop, set, length-append, length-drop, take-append-drop, get_or-append, drop_of_length-le}
 use lib.Seq.{length-take-le, take-append-le, drop-append-le, take-append-add, drop-append-add, take-take, take_at, drop_at, drop-drop, get_or-take, get_or-drop, set_split, get_or-set_same, get_or-set_other}
 use Rattle.wire.specs.Field.{Bytes}
@@ -29,6 +30,13 @@ splice-set a i v h = set_split a i v h ∙ rw (add-one i, append_assoc)
 pub splice-whole : (a p : List ℕ) → length p ≡ length a → splice a 0 p ≡ p
 unfolding splice
 splice-whole a p e = rw (zero-add, drop_of_length-le a {i = length p} (omega arith)) (append-nil p)
+
+-- a part written over the slice of its place
+pub splice-over : (a : List ℕ) (at size : ℕ) (p now : List ℕ) → now ≡ p → length p ≡ size → put_mid at (at + size - at) a now ≡ splice a at p
+unfolding splice
+splice-over a at size p now e sized =
+    let same : at + size - at ≡ length p = omega arith in
+    rw (e, same, drop-drop, append_assoc)
 
 -- the bytes before a part and the part
 head : (a : List ℕ) (at : ℕ) (p : List ℕ) → at ≤ length a → length (take at a ++ p) ≡ at + length p

@@ -1,53 +1,51 @@
--- `get` meets its contract: before each turn `n` is the field of the first `i` bytes, and a turn is the definition's own step. Seven bytes' number
+-- `get` meets its contract: before each turn `n` is the field of the bytes passed, and a turn is the definition's own step. Seven bytes' number
 -- times 256 and one byte more still fit 64 bits.
 use mathlib.Core.Path.{◌≡◌, refl}
 use mathlib.Core.List.{List}
-use Prim.Native.Nat.{ℕ, ◌+◌, ◌*◌, ◌^◌, ◌≤◌, ◌<◌}
-use native.Mathlib.Nat.{lt_of_lt_of_le, pow-le-pow_right, pow-suc}
+use Prim.Native.Nat.{ℕ, ◌+◌, ◌*◌, ◌-◌, ◌^◌, ◌≤◌, ◌<◌}
+use native.Mathlib.Nat.{lt_of_lt_of_le, pow-le-pow_right}
 use native.Mathlib.Numerals.{add-one}
 use native.Mathlib.Omega.{arith}
-use lib.Arith.{digits_lt}
 use lib.Dec.{lit<}
-use lib.ListN.{get_or, drop}
-use lib.Seq.{get_or-drop}
-use mir.Syntax.{w8, w64}
+use lib.ListN.{get_or, take, drop, length-take, length-drop}
+use lib.Seq.{get_or-take}
+use mir.Syntax.{w8}
 use mir.Val.{Fits}
-use Rattle.wire.specs.Field.{be}
+use Rattle.wire.specs.Field.{Bytes, be}
+use Rattle.wire.proofs.Laws.Field.{be-bound, bytes_drop}
 use Rattle.wire.proofs.get.Goals as goal
 
--- seven bytes' number has room for one more
-room : (n i : ℕ) → i ≤ 7 → n < 256 ^ i → n < 256 ^ 7
-room n i h below = lt_of_lt_of_le below (pow-le-pow_right (lit< tt) h)
-
--- seven bytes' number times 256 has room for it
-more : {m byte : ℕ} (n : ℕ) → n < 256 ^ 7 → m ≤ n * 256 → Fits w8 byte → Fits w64 (m + byte)
-more n below times known = omega (arith, below, times, known)
-
--- a turn keeps the bound, whichever byte it takes
-bound : {byte : ℕ} (n i : ℕ) → n < 256 ^ i → Fits w8 byte → n * 256 + byte < 256 ^ (i + 1)
-bound {byte} n i below known =
-    let small : byte < 256 = omega (arith, known) in
-    rw (add-one, pow-suc) (digits_lt below small)
+-- at most seven bytes' number
+room : {n : ℕ} (s : List ℕ) (at i : ℕ) → ((k : ℕ) → Fits w8 (get_or s k 0)) → n ≡ be i (drop at s) → i ≤ 7 → n < 256 ^ 7
+room s at i known e h =
+    let bytes : Bytes (drop at s) = bytes_drop at s (λ k. omega (arith, known k)) in
+    rw e (lt_of_lt_of_le (be-bound i (drop at s) bytes) (pow-le-pow_right (lit< tt) h))
 
 -- a turn takes one more byte
-turn : (s : List ℕ) (at i n : ℕ) → n ≡ be i (drop at s) → n * 256 + get_or s (at + i) 0 ≡ be (i + 1) (drop at s)
+turn : {n byte i width : ℕ} (l : List ℕ) → i < width → byte ≡ get_or (take width l) i 0 → n ≡ be i l → n * 256 + byte ≡ be (i + 1) l
 unfolding be
-turn s at i n e = rw (add-one i, get_or-drop, e)
+turn {i = i} {width = width} l h here e = rw (add-one i, here, e, get_or-take width l i 0 h)
 
-pub loop-i-init : goal.loop-i-init
+pub loop-byte-init : goal.loop-byte-init
 unfolding be
-loop-i-init c = (omega arith, omega arith, refl)
+loop-byte-init c = refl
 
 pub overflow_mul-n : goal.overflow_mul-n
-overflow_mul-n c = omega (arith, room c.loop-i.n c.loop-i.i (omega arith) c.loop-i.invariant.1)
+overflow_mul-n c =
+    let seven : c.loop-byte.byte-index ≤ 7 = omega (arith, length-take {A = ℕ}) in
+    omega (arith, room c.args.s.now c.args.at c.loop-byte.byte-index c.type_inv.s c.loop-byte.invariant seven)
 
-pub overflow_add-n-in-loop-i : goal.overflow_add-n-in-loop-i
-overflow_add-n-in-loop-i c =
-    more c.loop-i.n (room c.loop-i.n c.loop-i.i (omega arith) c.loop-i.invariant.1) (omega arith) (c.type_inv.s _)
+pub overflow_add-n : goal.overflow_add-n
+overflow_add-n c =
+    let seven : c.loop-byte.byte-index ≤ 7 = omega (arith, length-take {A = ℕ}) in
+    omega (arith, room c.args.s.now c.args.at c.loop-byte.byte-index c.type_inv.s c.loop-byte.invariant seven)
 
-pub loop-i-preserved : goal.loop-i-preserved
-loop-i-preserved c = (
-  omega arith,
-  bound c.loop-i.n c.loop-i.i c.loop-i.invariant.1 (c.type_inv.s _),
-  turn c.args.s.now c.args.at c.loop-i.i c.loop-i.n c.loop-i.invariant.2,
-)
+pub loop-byte-preserved : goal.loop-byte-preserved
+loop-byte-preserved c =
+    let inside : c.loop-byte.byte-index < c.args.at + c.args.width - c.args.at = omega (arith, length-take {A = ℕ}) in
+    turn (drop c.args.at c.args.s.now) inside c.from.ensures c.loop-byte.invariant
+
+pub returns : goal.returns
+returns c =
+    let all : c.loop-byte.byte-index ≡ c.args.width = omega (arith, length-take {A = ℕ}, length-drop {A = ℕ}) in
+    rw (← all) c.loop-byte.invariant

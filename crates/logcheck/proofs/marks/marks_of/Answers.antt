@@ -1,11 +1,9 @@
 -- Before each turn the first `i` marks are gathered.
-use native.Mathlib.Omega.{arith}
 use Rattle.logcheck.proofs.MarkLaws.{gathered-start, gathered_next}
 use Rattle.logcheck.proofs.marks.marks_of.Goals as goal
 
 pub loop-i-init : goal.loop-i-init
-loop-i-init c = (omega arith, gathered-start c.args.t.now)
+loop-i-init c = gathered-start c.args.t.bytes.now
 
 pub loop-i-preserved : goal.loop-i-preserved
-loop-i-preserved c =
-    (omega arith, gathered_next c.args.t.now c.loop-i.any c.loop-i.i c.loop-i.invariant.1)
+loop-i-preserved c = gathered_next c.args.t.bytes.now c.loop-i.any c.loop-i.i c.loop-i.invariant

@@ -1,37 +1,19 @@
--- `some_marked` meets its contract: before each turn no entry that was passed is marked, so the first marked entry is that of what is left.
-use mathlib.Core.Path.{sym}
-use native.Mathlib.Omega.{arith}
-use borrow.Author.Tests.{ltb-false}
-use lib.ListN.{length-take}
-use Rattle.slot.specs.Layout.{no_read}
+-- `some_marked` meets its contract: the chain goes through the entries of the read log.
+use mathlib.Core.Path.{◌∙◌}
+use Rattle.std.proofs.Common.{rules}
+use Rattle.std.proofs.lemmas.Iterator.{YieldsList-from_slice, YieldsList-from_take}
+use Rattle.std.proofs.lemmas.Iterator.Consumers.{YieldsList-at}
+use Rattle.std.proofs.lemmas.Iterator.Search.{any_from_yields_List}
+use borrow.Author.Tests.{tests}
 use Rattle.slot.specs.Logs.{some_marked}
-use Rattle.slot.proofs.Search.{of_none, of_some, search-next, search-found, search-end}
+use Rattle.slot.specs.declared.ReadEntry.{ReadEntry}
+use Rattle.slot.proofs.Logic.{any-listed}
 use Rattle.slot.proofs.SlotRecord.some_marked.Goals as goal
 
-pub returns-then-log-i : goal.returns-then-log-i
+pub returns : goal.returns
 unfolding some_marked
-returns-then-log-i c =
-    sym (of_some _ _ _
-    (search-found _ no_read c.args.self.reads c.args.self.readcount c.loop-i.i c.loop-i.invariant.1
-    c.if-i-count.true (omega arith) c.if-log-i.true))
-
-pub loop-i-preserved : goal.loop-i-preserved
-loop-i-preserved c = (
-  c.loop-i.invariant.0,
-  search-next _ no_read c.args.self.reads c.args.self.readcount c.loop-i.i c.loop-i.invariant.1
-      c.if-i-count.true (omega arith) c.if-log-i.false,
-)
-
-pub returns-else-i-count : goal.returns-else-i-count
-unfolding some_marked
-returns-else-i-count c =
-    sym (of_none _ _
-    (search-end _ no_read c.args.self.reads c.args.self.readcount c.loop-i.i c.loop-i.invariant.1
-    (rw length-take (omega (arith, ltb-false)))))
-
-pub returns-after-loop-i : goal.returns-after-loop-i
-unfolding some_marked
-returns-after-loop-i c =
-    sym (of_none _ _
-    (search-end _ no_read c.args.self.reads c.args.self.readcount c.loop-i.i c.loop-i.invariant.1
-    (rw length-take (omega arith))))
+returns c =
+    any_from_yields_List (λ (e : ReadEntry). e.mark) _ _ _ c.any.ensures.ran
+    (YieldsList-from_take c.args.self.readcount (YieldsList-at c.take.ensures.source (YieldsList-from_slice c.args.self.reads cc)) cc)
+    (λ x b q k. search (rules, tests))
+    ∙ any-listed _ _

@@ -10,12 +10,12 @@ use Rattle.rules.specs.AreaRight.{counts_right}
 use Rattle.logcheck.proofs.Chains.{pass, stop}
 use Rattle.slotcheck.proofs.numbers.counts_right.Goals as goal
 
-pub returns-then-index-le-READS : goal.returns-then-index-le-READS
+pub returns-then-from-le-READS : goal.returns-then-from-le-READS
 unfolding counts_right slot_of
-returns-then-index-le-READS c =
-    pass _ _ _ (le-leb (get_or c.args.t.now 3 0) 16 (omega arith)) (ap (λ (x : ℕ). leb x 16) c.index-then-index-le-READS.ensures.0)
+returns-then-from-le-READS c =
+    pass _ _ _ (le-leb (get_or c.args.t.bytes.now 3 0) 16 (omega arith)) (ap (λ (x : ℕ). leb x 16) c.from-then-from-le-READS.ensures)
 
-pub returns-else-index-le-READS : goal.returns-else-index-le-READS
+pub returns-else-from-le-READS : goal.returns-else-from-le-READS
 unfolding counts_right slot_of
-returns-else-index-le-READS c =
-    stop _ _ _ (lt-leb (get_or c.args.t.now 3 0) 16 (omega arith)) (lt-leb _ _ c.if-index-le-READS.false)
+returns-else-from-le-READS c =
+    stop _ _ _ (lt-leb (get_or c.args.t.bytes.now 3 0) 16 (omega arith)) (lt-leb _ _ c.if-from-le-READS.false)

@@ -1,20 +1,21 @@
--- Each return is the definition's case of the tests that led there.
+-- Each return is the definition's case of the phase.
 use mathlib.Core.Path.{refl}
-use borrow.Author.Tests.{eq-eqb, ne_eqb}
+use native.Mathlib.Omega.{arith}
+use Rattle.std.proofs.lemmas.Grind.{common_steps}
+use borrow.Author.Tests.{eq-eqb}
 use Rattle.slot.specs.Layout.{slot_of}
 use Rattle.rules.specs.AreaRight.{taken_right}
-use Rattle.logcheck.proofs.Chains.{pick_yes, pick_no}
+use Rattle.logcheck.proofs.Chains.{pick_yes}
 use Rattle.slotcheck.proofs.numbers.taken_right.Goals as goal
 
-pub returns-then-phase-eq2 : goal.returns-then-phase-eq2
+pub returns-in-2 : goal.returns-in-2
 unfolding taken_right slot_of
-returns-then-phase-eq2 c = pick_yes _ _ _ _ (eq-eqb _ _ c.if-phase-eq2.true) refl
+returns-in-2 c = pick_yes _ _ _ _ (eq-eqb _ _ c.in-2.is) refl
 
-pub returns-then-phase-eq4 : goal.returns-then-phase-eq4
+pub returns-in-4 : goal.returns-in-4
 unfolding taken_right slot_of
-returns-then-phase-eq4 c =
-    pick_no _ _ _ _ (ne_eqb _ _ c.if-phase-eq2.false) (pick_yes _ _ _ _ (eq-eqb _ _ c.if-phase-eq4.true) refl)
+returns-in-4 c = grind (arith, common_steps)
 
-pub returns : goal.returns
+pub returns-in_default : goal.returns-in_default
 unfolding taken_right slot_of
-returns c = pick_no _ _ _ _ (ne_eqb _ _ c.if-phase-eq2.false) (pick_no _ _ _ _ (ne_eqb _ _ c.if-phase-eq4.false) refl)
+returns-in_default c = grind (arith, common_steps)

@@ -1,19 +1,14 @@
--- `after` meets its contract: the ways out are no begin, a refused one, no such slot, no number left, and one more transaction.
-use native.Mathlib.Omega.{arith}
-use Rattle.tally.proofs.Numbering.{no-begin, refused-begin, no_place, none_left, one_more}
+-- `after` meets its contract: one more transaction, or one of the tests fails.
+use Rattle.std.proofs.Common.{arith}
+use Rattle.std.proofs.lemmas.Grind.{common_steps}
+use Rattle.slot.specs.Logic.{◌and◌}
+use Rattle.tally.specs.Numbering.{numbers_after}
 use Rattle.tally.proofs.Numbers.after.Goals as goal
 
-pub returns-then-step-ne-BEGIN : goal.returns-then-step-ne-BEGIN
-returns-then-step-ne-BEGIN c = search no-begin
+pub returns-then-self-lt-LAST : goal.returns-then-self-lt-LAST
+unfolding numbers_after ◌and◌
+returns-then-self-lt-LAST c = grind (arith, common_steps)
 
-pub returns-then-code-ne0 : goal.returns-then-code-ne0
-returns-then-code-ne0 c = refused-begin _ _ _ _ (λ e. omega arith)
-
-pub returns-then-at-ge-PLACES : goal.returns-then-at-ge-PLACES
-returns-then-at-ge-PLACES c = search no_place
-
-pub returns-then-self : goal.returns-then-self
-returns-then-self c = search none_left
-
-pub returns : goal.returns
-returns c = search one_more
+pub returns-else-step-eq-BEGIN : goal.returns-else-step-eq-BEGIN
+unfolding numbers_after ◌and◌
+returns-else-step-eq-BEGIN c = grind (arith, common_steps)

@@ -1,24 +1,13 @@
--- Before each turn the cells passed are right, each with what is due to it.
-use mathlib.Core.Bool.{Bool}
-use mathlib.Core.List.{List}
-use Prim.Native.Nat.{ℕ, ◌+◌, ◌*◌}
-use native.Mathlib.Omega.{arith}
+-- Each cell's test is its clause, with what is due to it.
+use mathlib.Core.Path.{refl}
+use Prim.Native.Nat.{◌+◌, ◌*◌}
 use lib.ListN.{drop, get_or}
+use Rattle.std.proofs.Common.{rules}
 use Rattle.rules.specs.Layout.{cell_of}
-use Rattle.logcheck.proofs.Chains.{passes, fails, every-start, every-next, every-no}
+use Rattle.logcheck.proofs.Alls.{range-all}
 use Rattle.wellformed.specs.Claims.{cell_due}
 use Rattle.wellformed.proofs.cells.cells_right.Goals as goal
 
-abbrev right : ℕ → List ℕ → List ℕ → ℕ → Bool
-right clock due l c = cell_due clock (get_or due c 0) (cell_of 8 (drop (14 + 14 * c) l))
-
-pub loop-c-init : goal.loop-c-init
-loop-c-init c = (omega arith, every-start _)
-
-pub returns-then-not-cell_right : goal.returns-then-not-cell_right
-returns-then-not-cell_right c =
-    every-no c.args.n (right c.args.clock c.args.due.now c.args.s.now) c.loop-c.c (omega arith) (fails c.cell_right.ensures c.if-not-cell_right.true)
-
-pub loop-c-preserved : goal.loop-c-preserved
-loop-c-preserved c =
-    (omega arith, every-next (right c.args.clock c.args.due.now c.args.s.now) c.loop-c.c c.loop-c.invariant.1 (passes c.cell_right.ensures c.if-not-cell_right.false))
+pub returns : goal.returns
+returns c =
+    range-all c.args.area.cells (λ k. cell_due c.args.clock (get_or c.args.due.now k 0) (cell_of 8 (drop (14 + 14 * k) c.args.area.bytes.now))) c.all.ensures.ran refl (λ x b q k. search rules)

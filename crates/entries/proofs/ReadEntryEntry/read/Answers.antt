@@ -1,0 +1,21 @@
+-- `read` meets its contract: the bytes from `at` on are the head of what the definition reads.
+use mathlib.Core.Path.{◌≡◌, sym, ap, ◌∙◌}
+use lib.Dec.{eqb}
+use lib.ListN.{drop}
+use lib.Seq.{drop-drop, get_or-drop}
+use Rattle.wire.specs.Field.{be}
+use Rattle.slot.specs.Layout.{read_of}
+use Rattle.slot.proofs.Entry.{first_byte}
+use Rattle.entries.proofs.ReadEntryEntry.read.Goals as goal
+
+pub returns : goal.returns
+unfolding read_of
+returns c =
+    let word_back : c.word_at.result ≡ be 4 (drop 2 (drop c.args.at c.args.s.now)) =
+    c.word_at.ensures ∙ ap (be 4) (sym (drop-drop 2 c.args.at c.args.s.now)) in
+    λ i.
+    record {
+      cell = first_byte c.args.s.now c.args.at i;
+      mark = eqb (sym (get_or-drop c.args.at c.args.s.now 1 0) i) 1;
+      word = word_back i;
+    }
