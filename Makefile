@@ -38,9 +38,7 @@ test:
 	@echo "== layout of the second program (rt ci looks at that of the crates)"
 	cd oracle && cargo fmt --check
 	@echo "== nothing is asked of a caller at the boundaries"
-	! grep -rnw requires $(foreach name,$(BOUNDARIES),$(wildcard crates/$(name)/specs))
-	! awk '/^ *(pub )?(extern "C" )?fn / { open = /pub / } /^ *requires/ && open && !/F\.(IsAlwaysCallable|post) / { print FILENAME ": " $$0 }' \
-	$(foreach name,$(BOUNDARIES),$(wildcard crates/$(name)/src/*.rt)) | grep .
+	! grep -rnw requires $(foreach name,$(BOUNDARIES),$(wildcard crates/$(name)/src crates/$(name)/specs))
 	@echo "== the headers in C89 and in C++"
 	gcc -std=c89 -x c -fsyntax-only $(STRICT) examples/c/header.cpp examples/c/wear_header.cpp
 	g++ -std=c++98 -fsyntax-only $(STRICT) examples/c/header.cpp examples/c/wear_header.cpp

@@ -38,9 +38,11 @@ pub fn byte(s: &[u8], at: usize) -> u8
 
 // The number in the two bytes at `at`.
 fn pair(s: &[u8], at: usize) -> u16
-    requires { at < 2 ^ 32 }
     ensures { result ≡ be 2 (drop at s.now) }
 {
+    if s.len() <= at {
+        return 0;
+    }
     u16::from_be_bytes([byte(s, at), byte(s, at + 1)])
 }
 
@@ -53,10 +55,9 @@ pub fn word(s: &[u8]) -> u32
 
 // How many pieces of `piece` bytes `size` bytes are, if no byte is left over, and there are at least `least` and at most `most` of them.
 fn pieces(size: usize, piece: usize, least: usize, most: usize) -> Option<usize>
-    requires { 0 < piece }
     ensures { result ≡ pieces_of size piece least most }
 {
-    let n = size / piece;
+    let n = size.checked_div(piece).unwrap_or(0);
     if piece * n != size || n < least || most < n {
         return None;
     }

@@ -6,7 +6,7 @@ ghost use Rattle.effects.specs.Steps.{StepTraced, StepsTraced, AllTraced};
 ghost use Rattle.effects.specs.Traced.{SheetTraced};
 
 use line::Out;
-use stage::TooShort;
+use stage::{Maker, TooShort};
 use tally::Numbers;
 
 // Room for the longest trace: 12 bytes for each of 4,096 steps.
@@ -45,9 +45,20 @@ fn trace_all(steps: &[u8], area: &mut [u8], out: &mut [u8]) -> usize
     out.end
 }
 
+// The steps of a sheet traced.
+struct Effects;
+
+impl Maker for Effects {
+    ghost makes = { AllTraced };
+
+    fn make(steps: &[u8], area: &mut [u8], out: &mut [u8]) -> usize {
+        trace_all(steps, area, out)
+    }
+}
+
 // Runs a sheet: its trace stands at the front of `out`, and its area at the front of `area`.
 pub fn trace_sheet(sheet: &[u8], area: &mut [u8], out: &mut [u8]) -> Result<usize, TooShort>
     ensures { SheetTraced sheet.now area.old out.old result area.new out.new }
 {
-    stage::run(sheet, area, out, MOST_TRACE, trace_all)
+    stage::run::<Effects>(sheet, area, out, MOST_TRACE)
 }

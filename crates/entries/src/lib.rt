@@ -14,7 +14,7 @@ ghost use Rattle.slot.specs.Layout.{
   start_at,
 };
 ghost use Rattle.slot.proofs.Entry.{length-read_bytes, length-write_bytes};
-ghost use Rattle.entries.specs.Entries.{write_log_here, first_put};
+ghost use Rattle.entries.specs.Entries.{read_here, write_here, write_log_here, read_put, write_put, first_put};
 
 use slot::{ReadEntry, SlotRecord, WriteEntry};
 
@@ -52,7 +52,10 @@ impl Entry for ReadEntry {
 
     ghost sized = { length-read_bytes };
 
-    fn read(s: &[u8], at: usize) -> Self {
+    fn read(s: &[u8], at: usize) -> Self
+        requires { at + read_size ≤ length s.now }
+        ensures { result ≡ read_here at s.now }
+    {
         ReadEntry {
             cell: s[at],
             mark: s[at + 1] == 1,
@@ -60,7 +63,10 @@ impl Entry for ReadEntry {
         }
     }
 
-    fn put(self, s: &mut [u8], at: usize) {
+    fn put(self, s: &mut [u8], at: usize)
+        requires { at + read_size ≤ length s.old }
+        ensures { s.new ≡ read_put at s.old self }
+    {
         s[at] = self.cell;
         s[at + 1] = u8::from(self.mark);
         wire::put(s, at + 2, 4, u64::from(self.word));
@@ -78,14 +84,20 @@ impl Entry for WriteEntry {
 
     ghost sized = { length-write_bytes };
 
-    fn read(s: &[u8], at: usize) -> Self {
+    fn read(s: &[u8], at: usize) -> Self
+        requires { at + write_size ≤ length s.now }
+        ensures { result ≡ write_here at s.now }
+    {
         WriteEntry {
             cell: s[at],
             word: wire::word_at(s, at + 1),
         }
     }
 
-    fn put(self, s: &mut [u8], at: usize) {
+    fn put(self, s: &mut [u8], at: usize)
+        requires { at + write_size ≤ length s.old }
+        ensures { s.new ≡ write_put at s.old self }
+    {
         s[at] = self.cell;
         wire::put(s, at + 1, 4, u64::from(self.word));
     }

@@ -1,7 +1,7 @@
 // Input, read to its end or as far as a buffer goes, and what is made of it, written.
 #![tactic(auto)]
 
-ghost use Rattle.std.specs.Prelude.{◌≡◌, ◌≤◌, length, take, IfOk, OnOk, OnErr, MatchResult};
+ghost use Rattle.std.specs.Prelude.{List, ℕ, ◌≡◌, ◌≤◌, length, take, Result, IfOk, OnOk, OnErr, MatchResult};
 ghost use Rattle.std.specs.Io.KnownBytes.{Appends};
 
 use std::io;
@@ -25,23 +25,30 @@ pub fn read_full<R: Read>(from: &mut R, buf: &mut [u8]) -> io::Result<usize>
     Ok(done)
 }
 
-// Reads an input into `input`, and has `run` put what is made of it at the front of `out`, with `room` to work in. What `run` says stands there is written
-// to `to`; of an error of `run` nothing is.
-pub fn pass<R: Read, W: Write, E: Drop, F: FnOnce(&[u8], &mut [u8], &mut [u8]) -> Result<usize, E>>(
+// What a program makes of its input: with `room` to work in it puts a text at the front of `out` and answers where it ends, or why there is none. It is a trait, whose
+// function may always be called: of a closure `pass` would have to ask that.
+pub trait Maker<E> {
+    ghost makes: { List ℕ → List ℕ → List ℕ → Result ℕ E → List ℕ → List ℕ → Type 0 };
+
+    fn make(input: &[u8], room: &mut [u8], out: &mut [u8]) -> Result<usize, E>
+        ensures made { makes input.now room.old out.old result room.new out.new }
+        ensures within { IfOk result (λ n. n ≤ length out.new) };
+}
+
+// Reads an input into `input`, and has `M` put what is made of it at the front of `out`, with `room` to work in. What `M` says stands there is written
+// to `to`; of an error of `M` nothing is.
+pub fn pass<R: Read, W: Write, E: Drop, M: Maker<E>>(
     from: &mut R,
     to: &mut W,
     input: &mut [u8],
     room: &mut [u8],
     out: &mut [u8],
-    run: F,
 ) -> io::Result<()>
-    requires callable { F.IsAlwaysCallable run }
-    requires within { (bytes : _) (a b : _) (r : _) (a' b' : _) → F.post run bytes a b r a' b' → IfOk r (λ n. n ≤ length b'.now) }
-    ensures { OnOk result ((bytes : _) × (a : _) × (b : _) × (r : _) × (a' : _) × (b' : _) × F.post run bytes a b r a' b' × (b'.now ≡ out.new)
-        × MatchResult r (λ n. Appends (W.contents to.old) (W.contents to.new) (take n out.new)) (λ e. to.new ≡ to.old)) }
+    ensures { OnOk result ((count : ℕ) × (made : Result ℕ E) × M.makes (take count input.new) room.old out.old made room.new out.new
+        × MatchResult made (λ n. Appends (W.contents to.old) (W.contents to.new) (take n out.new)) (λ e. to.new ≡ to.old)) }
 {
     let count = read_full(from, input)?;
-    match run(&input[..count], room, out) {
+    match M::make(&input[..count], room, out) {
         Ok(end) => to.write_all(&out[..end]),
         Err(_) => Ok(()),
     }

@@ -101,6 +101,18 @@ module _ (l : List ℕ) (slot : ℕ) (set : List ℕ) (place : ℕ) (good : Good
       let made = read-stepping in
       record { answer = e ∙ ap (word_read place) made.reply_is; good = made.good; state = made.state }
 
+-- reads that go on have come as far as the area and the array say
+pub goes_on : (R : Reading) (l array : List ℕ) → Reached R (Ok tt) l array → Good l × (R ≡ going array (state_in l))
+goes_on (going words S) l array t = (t.good, rw (t.kept, t.state))
+goes_on (stopped place reply S) l array t = cc (t.answer)
+
+-- reads that have stopped stay so, with one more
+pub still-stopped : (M : Model) (slot : ℕ) (set : List ℕ) (place : ℕ) (R : Reading) (e : Unlevelled) (l array : List ℕ) → Reached R (Err e) l array
+    → Reached (read_at M slot set place R) (Err e) l array
+unfolding read_at
+still-stopped M slot set place (going words S) e l array t = cc (t.nothing)
+still-stopped M slot set place (stopped at reply S) e l array t = t
+
 module _ (l₀ : List ℕ) (slot : ℕ) (set : List ℕ) where
   abbrev reads_to : ℕ → Reading
   reads_to n = read_first controller (state_in l₀) slot set n

@@ -34,7 +34,7 @@ pub enum Unlevelled {
 // The weights of place, code and kind in the answer.
 const PLACE: u64 = 281474976710656;
 
-const CODE: u64 = 1099511627776;
+pub const CODE: u64 = 1099511627776;
 
 const KIND: u64 = 4294967296;
 
@@ -90,8 +90,9 @@ fn read_all(s: &mut [u8], of: WearSet, words: &mut [u32]) -> Result<(), Unlevell
     requires { Good s.old × (length words.old ≡ length of.set.now) }
     ensures { Reached (read_all s.old of.entry.slot of.entry.set.now) result s.new words.new }
 {
-    for (place, word) in words.iter_mut().enumerate() {
-        *word = read_place(s, of, place)?;
+    for place in 0..words.len() {
+        let word = read_place(s, of, place)?;
+        words[place] = word;
     }
     Ok(())
 }

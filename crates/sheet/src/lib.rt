@@ -7,7 +7,7 @@ ghost use Rattle.sheet.specs.Whole.{SheetRun};
 
 use area::{CELL, CLOCK, COUNT, HEADER};
 use line::Out;
-use stage::TooShort;
+use stage::{Maker, TooShort};
 
 // Room for the longest output: a step's line has at most 19 bytes, a cell's 46, the clock's 27.
 pub const MOST_OUTPUT: usize = 80795;
@@ -52,9 +52,20 @@ fn run_steps(steps: &[u8], area: &mut [u8], out: &mut [u8]) -> usize
     out.end
 }
 
+// The steps of a sheet run, and all their lines printed.
+struct Lines;
+
+impl Maker for Lines {
+    ghost makes = { StepsRun };
+
+    fn make(steps: &[u8], area: &mut [u8], out: &mut [u8]) -> usize {
+        run_steps(steps, area, out)
+    }
+}
+
 // Runs a sheet: its output stands at the front of `out`, and its area at the front of `area`.
 pub fn run_sheet(sheet: &[u8], area: &mut [u8], out: &mut [u8]) -> Result<usize, TooShort>
     ensures { SheetRun sheet.now area.old out.old result area.new out.new }
 {
-    stage::run(sheet, area, out, MOST_OUTPUT, run_steps)
+    stage::run::<Lines>(sheet, area, out, MOST_OUTPUT)
 }

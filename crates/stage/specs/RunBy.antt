@@ -1,7 +1,5 @@
--- A sheet run by a function that makes the steps of a good one: what the run leaves, in terms of what a call of that function may leave.
+-- A sheet run by what makes the steps of a good one: what the run leaves, in terms of what the making may leave.
 use Rattle.std.specs.Prelude.{true, false, List, ◌≡◌, ℕ, length, Result, Ok, Err}
-use Rattle.std.specs.Fn.{Once}
-use Rattle.std.specs.Borrow.{Bor, MutBor}
 use Rattle.wire.specs.Part.{splice}
 use Rattle.line.specs.Gather.{gathered, added, Leaves}
 use Rattle.apart.specs.Apart.{steps, good_sheet}
@@ -9,27 +7,16 @@ use Rattle.stage.specs.declared.TooShort.{TooShort}
 use Rattle.stage.specs.First.{first_area, bad_sheet}
 use Rattle.stage.specs.Printed.{roomy, too_short}
 
--- what is known of a function that takes the steps, an area and a buffer, and answers a number
-abbrev pub Maker : Type 0 → Type 1
-Maker F = Once F (Bor (List ℕ) × (MutBor (List ℕ) × (MutBor (List ℕ) × Unit {0}))) (ℕ × (MutBor (List ℕ) × (MutBor (List ℕ) × Unit {0})))
+-- the steps l made on the area a with the buffer out may answer r, and leave b and t there
+abbrev pub Makes : Type 1
+Makes = (l a out : List ℕ) (r : ℕ) (b t : List ℕ) → Type 0
 
--- a call of f at the steps l, the area a and the buffer out may answer r, and leave b and t there
-pub record MakesOf {F : Type 0} (g : Maker F) (f : F) (l a out : List ℕ) (r : ℕ) (b t : List ℕ) : Type 0 where
-  pub steps : Bor (List ℕ)
-  pub area : MutBor (List ℕ)
-  pub buffer : MutBor (List ℕ)
-  pub area_left : MutBor (List ℕ)
-  pub buffer_left : MutBor (List ℕ)
-  pub shows : (steps.now ≡ l) × (area.now ≡ a) × (buffer.now ≡ out)
-  pub met : g.post f (steps, (area, (buffer, tt))) (r, (area_left, (buffer_left, tt)))
-  pub leaves : (area_left.now ≡ b) × (buffer_left.now ≡ t)
-
-module _ {F : Type 0} (g : Maker F) (most : ℕ) (f : F) (s a out : List ℕ) where
+module _ (makes : Makes) (most : ℕ) (s a out : List ℕ) where
   -- the run of a good sheet: its steps are made on its area, which stands at the front of the lent one
   pub record GoodRun (r : Result ℕ TooShort) (b t : List ℕ) : Type 0 where
     pub end : ℕ
     pub own : List ℕ
-    pub made : MakesOf g f (steps s) (first_area s) out end own t
+    pub made : makes (steps s) (first_area s) out end own t
     pub size : length own ≡ length (first_area s)
     pub answer : r ≡ Ok end
     pub area : b ≡ splice a 0 own

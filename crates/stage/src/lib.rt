@@ -1,6 +1,7 @@
 // What the programs that run a step sheet share: its area laid out, one step made from its 8 bytes, what a bad sheet prints, and the run itself. Any bytes are taken, and any areas.
 #![tactic(auto)]
 
+ghost use Rattle.std.specs.Prelude.{List, ℕ};
 ghost use Rattle.line.specs.Gather.{Leaves, gathered, added};
 ghost use Rattle.crocktendril.specs.Contract.{Stepped};
 ghost use Rattle.stage.specs.Calls.{call_of};
@@ -79,24 +80,31 @@ pub fn bad_sheet(out: &mut [u8]) -> usize
     line::put_bytes(out, 0, b"bad sheet\n").unwrap_or(0)
 }
 
-// Runs a sheet with room for `most` bytes of output. Of a good sheet `make` makes the steps on the area that is laid out, puts what there is to print at
+// What makes the steps of a good sheet on its area, and puts what there is to print at the front of a buffer. Answers where it ends. It is a trait, whose function may always
+// be called: of a closure `run` would have to ask that.
+pub trait Maker {
+    ghost makes: { List ℕ → List ℕ → List ℕ → ℕ → List ℕ → List ℕ → Type 0 };
+
+    fn make(steps: &[u8], area: &mut [u8], out: &mut [u8]) -> usize
+        ensures { makes steps.now area.old out.old result area.new out.new };
+}
+
+// Runs a sheet with room for `most` bytes of output. Of a good sheet `M` makes the steps on the area that is laid out, puts what there is to print at
 // the front of the buffer, and answers where it ends. With too little room nothing is done.
-pub fn run<F: FnOnce(&[u8], &mut [u8], &mut [u8]) -> usize>(
+pub fn run<M: Maker>(
     sheet: &[u8],
     area: &mut [u8],
     out: &mut [u8],
     most: usize,
-    make: F,
 ) -> Result<usize, TooShort>
-    requires { F.IsAlwaysCallable make }
-    ensures { RunBy F.FnOnce most make sheet.now area.old out.old result area.new out.new }
+    ensures { RunBy M.makes most sheet.now area.old out.old result area.new out.new }
 {
     if out.len() < most {
         return Err(TooShort);
     }
     match set_up(sheet, area) {
         Ok(Ready { length, first, end }) => {
-            Ok(make(&sheet[first..end], &mut area[..length], out))
+            Ok(M::make(&sheet[first..end], &mut area[..length], out))
         }
         Err(Unready::Bad) => Ok(bad_sheet(out)),
         Err(Unready::Short) => Err(TooShort),

@@ -3,6 +3,7 @@ use mathlib.Core.List.{List}
 use mathlib.Core.Path.{◌≡◌}
 use Prim.Native.Nat.{ℕ}
 use Rattle.wire.proofs.Unique.{unique}
+use Rattle.line.proofs.Unique.{writes-unique}
 use Rattle.line.specs.declared.Out.{Out}
 use Rattle.line.specs.Gather.{gathered, added_parts, Leaves, written, Writes}
 use Rattle.telling.specs.declared.Before.{Before}
@@ -22,4 +23,4 @@ pub put-line-writes : (out : Out) (before : Before) (step code slot number cell 
     → Writes out (added_parts (step_parts before step code slot number cell) (written out)) one
     → Writes out (added_parts (step_parts before step code slot number cell) (written out)) two → (one.end ≡ two.end) × (one.bytes.now ≡ two.bytes.now)
 put-line-writes out before step code slot number cell one two p q =
-    put-line-unique out.bytes.now out.end before step code slot number cell one.end two.end one.bytes.now two.bytes.now p.leaves q.leaves
+    writes-unique out (added_parts (step_parts before step code slot number cell) (written out)) one two p q

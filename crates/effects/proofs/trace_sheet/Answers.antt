@@ -6,9 +6,4 @@ use Rattle.effects.proofs.Whole.{bad-trace, traced-on}
 use Rattle.effects.proofs.trace_sheet.Goals as goal
 
 pub returns : goal.returns
-returns c =
-    printed-by _ _ _ _ _ _ (omega arith) (bad-trace _)
-    (λ right room e b t made.
-    let run : AllTraced made.steps.now made.area.now made.buffer.now e made.area_left.now made.buffer_left.now = made.met in
-    traced-on _ right room (rw (made.shows.0, made.shows.1, made.shows.2, made.leaves.0, made.leaves.1) at run))
-    c.run.ensures
+returns c = printed-by AllTraced _ _ _ _ (omega arith) (bad-trace _) (λ right room e b t run. traced-on _ right room run) c.run.ensures

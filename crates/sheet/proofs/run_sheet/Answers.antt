@@ -6,9 +6,4 @@ use Rattle.sheet.proofs.Whole.{bad-output, ran_on}
 use Rattle.sheet.proofs.run_sheet.Goals as goal
 
 pub returns : goal.returns
-returns c =
-    printed-by _ _ _ _ _ _ (omega arith) (bad-output _)
-    (λ right room e b t made.
-    let run : StepsRun made.steps.now made.area.now made.buffer.now e made.area_left.now made.buffer_left.now = made.met in
-    ran_on _ right room (rw (made.shows.0, made.shows.1, made.shows.2, made.leaves.0, made.leaves.1) at run))
-    c.run.ensures
+returns c = printed-by StepsRun _ _ _ _ (omega arith) (bad-output _) (λ right room e b t run. ran_on _ right room run) c.run.ensures

@@ -8,7 +8,7 @@ use Rattle.stage.proofs.RunBy.{short-out, short-area, bad-run, good-run}
 use Rattle.stage.proofs.run.Goals as goal
 
 pub returns-then-out-most : goal.returns-then-out-most
-returns-then-out-most g c = short-out _ _ _ _ _ _ (omega arith)
+returns-then-out-most g c = short-out _ _ _ _ _ (omega arith)
 
 pub slice_bounds-make-count : goal.slice_bounds-make-count
 slice_bounds-make-count g c =
@@ -38,12 +38,12 @@ slice_bounds-make-end-in-Ok-2 g c =
 pub returns-in-Ok : goal.returns-in-Ok
 returns-in-Ok g c =
     let told = when-ready c.set_up.ensures c.in-Ok.is in
-    good-run _ _ _ _ _ _ (omega arith) told c.make.ensures c.make.auto.arg3 refl refl refl refl
+    good-run _ _ _ _ _ (omega arith) told c.make.ensures c.make.auto.area refl refl
 
 pub returns-in-Err-Bad : goal.returns-in-Err-Bad
 returns-in-Err-Bad g c =
-    bad-run _ _ _ _ _ _ (omega arith) (when-bad c.set_up.ensures (c.in-Err-Bad.is ∙ ap Err c.in-Err-Bad.field-0-is)) c.bad_sheet.ensures
+    bad-run _ _ _ _ _ (omega arith) (when-bad c.set_up.ensures (c.in-Err-Bad.is ∙ ap Err c.in-Err-Bad.field-0-is)) c.bad_sheet.ensures
 
-pub returns : goal.returns
-returns g c =
-    short-area _ _ _ _ _ _ (when-short c.set_up.ensures (c.in-Err-Short.is ∙ ap Err c.in-Err-Short.field-0-is))
+pub returns-in-Err-Short : goal.returns-in-Err-Short
+returns-in-Err-Short g c =
+    short-area _ _ _ _ _ (when-short c.set_up.ensures (c.in-Err-Short.is ∙ ap Err c.in-Err-Short.field-0-is))
