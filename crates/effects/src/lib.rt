@@ -46,12 +46,13 @@ fn trace_all(steps: &[u8], area: &mut [u8], out: &mut [u8]) -> usize
 }
 
 // The steps of a sheet traced.
+#[derive(Drop)]
 struct Effects;
 
 impl Maker for Effects {
-    ghost makes = { AllTraced };
+    ghost makes = { λ _. AllTraced };
 
-    fn make(steps: &[u8], area: &mut [u8], out: &mut [u8]) -> usize {
+    fn make(self, steps: &[u8], area: &mut [u8], out: &mut [u8]) -> usize {
         trace_all(steps, area, out)
     }
 }
@@ -60,5 +61,5 @@ impl Maker for Effects {
 pub fn trace_sheet(sheet: &[u8], area: &mut [u8], out: &mut [u8]) -> Result<usize, TooShort>
     ensures { SheetTraced sheet.now area.old out.old result area.new out.new }
 {
-    stage::run::<Effects>(sheet, area, out, MOST_TRACE)
+    stage::run(sheet, area, out, MOST_TRACE, Effects)
 }

@@ -53,12 +53,13 @@ fn run_steps(steps: &[u8], area: &mut [u8], out: &mut [u8]) -> usize
 }
 
 // The steps of a sheet run, and all their lines printed.
+#[derive(Drop)]
 struct Lines;
 
 impl Maker for Lines {
-    ghost makes = { StepsRun };
+    ghost makes = { λ _. StepsRun };
 
-    fn make(steps: &[u8], area: &mut [u8], out: &mut [u8]) -> usize {
+    fn make(self, steps: &[u8], area: &mut [u8], out: &mut [u8]) -> usize {
         run_steps(steps, area, out)
     }
 }
@@ -67,5 +68,5 @@ impl Maker for Lines {
 pub fn run_sheet(sheet: &[u8], area: &mut [u8], out: &mut [u8]) -> Result<usize, TooShort>
     ensures { SheetRun sheet.now area.old out.old result area.new out.new }
 {
-    stage::run::<Lines>(sheet, area, out, MOST_OUTPUT)
+    stage::run(sheet, area, out, MOST_OUTPUT, Lines)
 }

@@ -83,28 +83,29 @@ pub fn bad_sheet(out: &mut [u8]) -> usize
 // What makes the steps of a good sheet on its area, and puts what there is to print at the front of a buffer. Answers where it ends. It is a trait, whose function may always
 // be called: of a closure `run` would have to ask that.
 pub trait Maker {
-    ghost makes: { List ℕ → List ℕ → List ℕ → ℕ → List ℕ → List ℕ → Type 0 };
+    ghost makes: { Self → List ℕ → List ℕ → List ℕ → ℕ → List ℕ → List ℕ → Type 0 };
 
-    fn make(steps: &[u8], area: &mut [u8], out: &mut [u8]) -> usize
-        ensures { makes steps.now area.old out.old result area.new out.new };
+    fn make(self, steps: &[u8], area: &mut [u8], out: &mut [u8]) -> usize
+        ensures { makes self steps.now area.old out.old result area.new out.new };
 }
 
-// Runs a sheet with room for `most` bytes of output. Of a good sheet `M` makes the steps on the area that is laid out, puts what there is to print at
+// Runs a sheet with room for `most` bytes of output. Of a good sheet `maker` makes the steps on the area that is laid out, puts what there is to print at
 // the front of the buffer, and answers where it ends. With too little room nothing is done.
-pub fn run<M: Maker>(
+pub fn run<M: Maker + Drop>(
     sheet: &[u8],
     area: &mut [u8],
     out: &mut [u8],
     most: usize,
+    maker: M,
 ) -> Result<usize, TooShort>
-    ensures { RunBy M.makes most sheet.now area.old out.old result area.new out.new }
+    ensures { RunBy (M.makes maker) most sheet.now area.old out.old result area.new out.new }
 {
     if out.len() < most {
         return Err(TooShort);
     }
     match set_up(sheet, area) {
         Ok(Ready { length, first, end }) => {
-            Ok(M::make(&sheet[first..end], &mut area[..length], out))
+            Ok(maker.make(&sheet[first..end], &mut area[..length], out))
         }
         Err(Unready::Bad) => Ok(bad_sheet(out)),
         Err(Unready::Short) => Err(TooShort),

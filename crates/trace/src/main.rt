@@ -7,12 +7,13 @@ use stage::TooShort;
 use std::io;
 
 // What it prints, of any input: the effects of the sheet's run.
+#[derive(Drop)]
 struct Trace;
 
 impl intake::Maker<TooShort> for Trace {
-    ghost makes = { SheetTraced };
+    ghost makes = { λ _. SheetTraced };
 
-    fn make(input: &[u8], room: &mut [u8], out: &mut [u8]) -> Result<usize, TooShort> {
+    fn make(self, input: &[u8], room: &mut [u8], out: &mut [u8]) -> Result<usize, TooShort> {
         effects::trace_sheet(input, room, out)
     }
 }
@@ -21,11 +22,12 @@ fn main(rt: HostRuntime) -> io::Result<()> {
     let mut input = [0u8; stage::MOST_INPUT];
     let mut area = [0u8; stage::MOST_AREA];
     let mut out = [0u8; effects::MOST_TRACE];
-    intake::pass::<_, _, _, Trace>(
+    intake::pass(
         &mut rt.stdin(),
         &mut io::writer(&rt),
         &mut input,
         &mut area,
         &mut out,
+        Trace,
     )
 }

@@ -44,6 +44,6 @@ pub returns-in-Err-Bad : goal.returns-in-Err-Bad
 returns-in-Err-Bad g c =
     bad-run _ _ _ _ _ (omega arith) (when-bad c.set_up.ensures (c.in-Err-Bad.is ∙ ap Err c.in-Err-Bad.field-0-is)) c.bad_sheet.ensures
 
-pub returns-in-Err-Short : goal.returns-in-Err-Short
-returns-in-Err-Short g c =
+pub returns : goal.returns
+returns g c =
     short-area _ _ _ _ _ (when-short c.set_up.ensures (c.in-Err-Short.is ∙ ap Err c.in-Err-Short.field-0-is))
